@@ -1,0 +1,4 @@
+pub mod Told
+pub mod Trace
+pub mod Written
+pub mod Binds

@@ -1,0 +1,37 @@
+ghost use Rattle.std.specs.Prelude.{◌≡◌, ◌<◌, List, ℕ, length, slice_index_or};
+
+use crate::octets::Octets;
+use std::marker::Model;
+
+/// The datagrams of one answer, in order.
+#[derive(Drop)]
+pub struct Grams {
+    datagrams: Vec<Octets>,
+}
+
+impl Model for Grams {
+    ghost Value = { List (List ℕ) };
+
+    ghost view = { λ g. g.datagrams.items };
+}
+
+impl Grams {
+    pub fn of(datagrams: Vec<Octets>) -> Grams
+        ensures { result ≡ datagrams.items }
+    {
+        Grams { datagrams }
+    }
+
+    pub fn len(&self) -> usize
+        ensures { result ≡ length self.now }
+    {
+        self.datagrams.len()
+    }
+
+    pub fn get(&self, i: usize) -> &Octets
+        requires { i < length self.now }
+        ensures { result.now ≡ slice_index_or self.now i result.now }
+    {
+        &self.datagrams[i]
+    }
+}

@@ -1,0 +1,27 @@
+//! The outside of the programs, as traits: datagram ports, clocks, sinks of octets, gates and hosts;
+//! each in memory, which tells all that it did, and real, over the operating system.
+//!
+//! Layer 2. Stands on: `net_addr`, `fixed_time`.
+//! Promises: what was taken, given, read and written is told where the object tells it, and a fault
+//! comes only where the object's count of faults rose.
+#![tactic(auto)]
+
+pub mod clock;
+pub mod gate;
+pub mod grams;
+pub mod host;
+pub mod octets;
+pub mod port;
+pub mod salt;
+pub mod sink;
+pub mod status;
+
+pub use clock::Clock;
+pub use gate::{Gate, OpenGate};
+pub use grams::Grams;
+pub use host::{Host, HostFault};
+pub use octets::{MAX_OCTETS, Octets};
+pub use port::{Event, Port, PortFault, Taken};
+pub use salt::Salt;
+pub use sink::{Sink, SinkFault, write_whole};
+pub use status::Status;

@@ -1,0 +1,3 @@
+/// The exit status of a program.
+#[derive(Clone, Copy, Debug, PartialEq, Eq)]
+pub struct Status(pub u8);
