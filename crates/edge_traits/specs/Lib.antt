@@ -2,3 +2,4 @@ pub mod Told
 pub mod Trace
 pub mod Written
 pub mod Binds
+pub mod Memory
