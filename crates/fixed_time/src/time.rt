@@ -1,5 +1,5 @@
-ghost use Rattle.std.specs.Prelude.{◌≡◌, ◌+◌, ◌%◌, ◌^◌};
-ghost use Rattle.fixed_time.specs.Time.{to_short_of, drift_of};
+ghost use Rattle.std.specs.Prelude.{◌≡◌, ◌+◌, ◌*◌, ◌%◌, ◌^◌};
+ghost use Rattle.fixed_time.specs.Time.{IsDiff, IsShifted, diff_of, drift_of, shifted, to_short_of};
 
 /// An NTP timestamp: seconds since 1900 modulo 2^32, with 32 bits of fraction (RFC 5905, section 6).
 #[derive(Clone, Copy, Debug, PartialEq, Eq)]
@@ -20,12 +20,36 @@ pub fn add_raw(a: Ntp64, n: u64) -> Ntp64
     Ntp64(a.0.wrapping_add(n))
 }
 
+/// The timestamp `s` after `a`, or before it where `s` is negative, modulo 2^64.
+pub fn add_span(a: Ntp64, s: Span) -> Ntp64
+    ensures value { result.0 ≡ shifted a.0 s.0 }
+    ensures sum { IsShifted a.0 s.0 result.0 }
+{
+    Ntp64(a.0.wrapping_add(s.0.cast_unsigned()))
+}
+
+/// How far `a` is after `b`: their difference modulo 2^64, taken from -2^63 to 2^63 - 1, so that
+/// it is right across the end of an era (RFC 5905, section 6).
+pub fn diff(a: Ntp64, b: Ntp64) -> Span
+    ensures value { result.0 ≡ diff_of a.0 b.0 }
+    ensures difference { IsDiff a.0 b.0 result.0 }
+{
+    Span(a.0.wrapping_sub(b.0).cast_signed())
+}
+
 /// The 32.32 seconds `n` as 16.16 seconds, rounded up; what is too long becomes the longest.
 pub fn to_short(n: u64) -> Short
     ensures { result.0 ≡ to_short_of n }
 {
     let units = n.div_ceil(1 << 16);
     Short(units.min(u64::from(u32::MAX)) as u32)
+}
+
+/// The 16.16 seconds `s` as 32.32 seconds.
+pub fn from_short(s: Short) -> u64
+    ensures { result ≡ s.0 * 2 ^ 16 }
+{
+    u64::from(s.0) << 16
 }
 
 /// How far a clock whose rate is uncertain by `ppm` millionths may drift in the 32.32 seconds `dt`:
@@ -59,6 +83,58 @@ mod tests {
 
     #[test]
     fn a_timestamp_passes_the_end_of_its_era(rt: HostRuntime) {
-        assert_eq!(rt; add_raw(Ntp64(0xffff_ffff_8000_0000), 1 << 32), Ntp64(0x8000_0000));
+        assert_eq!(rt;
+            add_raw(Ntp64(0xffff_ffff_8000_0000), 1 << 32),
+            Ntp64(0x8000_0000)
+        );
+        assert_eq!(rt;
+            add_span(Ntp64(0x8000_0000), Span(-1 << 32)),
+            Ntp64(0xffff_ffff_8000_0000)
+        );
+    }
+
+    #[test]
+    fn differences_are_signed_modulo_an_era(rt: HostRuntime) {
+        let cases = [
+            (Ntp64(0), Ntp64(0), Span(0)),
+            (
+                Ntp64(0x8000_0000),
+                Ntp64(0xffff_ffff_8000_0000),
+                Span(1 << 32),
+            ),
+            (
+                Ntp64(0xffff_ffff_8000_0000),
+                Ntp64(0x8000_0000),
+                Span(-1 << 32),
+            ),
+            (Ntp64((1 << 63) - 1), Ntp64(0), Span(i64::MAX)),
+            (Ntp64(1 << 63), Ntp64(0), Span(i64::MIN)),
+            (Ntp64(0), Ntp64(1 << 63), Span(i64::MIN)),
+        ];
+        for (a, b, expected) in cases {
+            assert_eq!(rt; diff(a, b), expected, "{a:?} after {b:?}");
+        }
+    }
+
+    // A reply over the end of an era, as RFC 5905, section 8, figure 15, computes it.
+    #[test]
+    fn offset_and_delay_over_the_end_of_an_era(rt: HostRuntime) {
+        let origin = Ntp64(0xffff_ffff_8000_0000);
+        let receive = Ntp64(0x1_0000_0000);
+        let transmit = receive;
+        let destination = Ntp64(0x8000_0000);
+
+        let there = i128::from(diff(receive, origin).0);
+        let back = i128::from(diff(transmit, destination).0);
+        let round = i128::from(diff(destination, origin).0);
+        let inside = i128::from(diff(transmit, receive).0);
+        assert_eq!(rt; (there + back) / 2, 1 << 32);
+        assert_eq!(rt; round - inside, 1 << 32);
+    }
+
+    #[test]
+    fn short_times_widen_exactly(rt: HostRuntime) {
+        assert_eq!(rt; from_short(Short(0x0001_8000)), 0x1_8000_0000);
+        assert_eq!(rt; from_short(Short(u32::MAX)), 0xffff_ffff_0000);
     }
 }

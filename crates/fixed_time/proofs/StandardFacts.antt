@@ -1,0 +1,41 @@
+-- Worked values: the offset and the delay of a reply over the end of an era (RFC 5905, section 8, figure 15).
+use Rattle.std.proofs.Common.{◌≡◌, ℕ, pos, negsuc, ◌-◌, ◌^◌, ◌+ℤ◌, ◌-ℤ◌, refl, lit≤, lit<}
+use Rattle.std.specs.Prelude.{int_div}
+use Rattle.fixed_time.specs.Time.{diff_of, shifted, to_short_of, drift_of}
+use Rattle.fixed_time.specs.Root.{root}
+use Rattle.fixed_time.proofs.RootLemmas.{root_is}
+
+-- the four timestamps: half a second before the era's end, one second after it, the same, half a second after it
+abbrev origin : ℕ
+origin = 0xffff_ffff_8000_0000
+
+abbrev receive : ℕ
+receive = 0x1_0000_0000
+
+abbrev destination : ℕ
+destination = 0x8000_0000
+
+offset_of_a_second : int_div (diff_of receive origin +ℤ diff_of receive destination) (pos 2) ≡ pos 4294967296
+offset_of_a_second = refl
+
+delay_of_a_second : diff_of destination origin -ℤ diff_of receive receive ≡ pos 4294967296
+delay_of_a_second = refl
+
+half_an_era_is_negative : diff_of (2 ^ 63) 0 ≡ negsuc (2 ^ 63 - 1)
+half_an_era_is_negative = refl
+
+back_over_the_end : shifted destination (negsuc 4294967295) ≡ origin
+back_over_the_end = refl
+
+short_of_one_unit : to_short_of 1 ≡ 1
+short_of_one_unit = refl
+
+longest_short : to_short_of (2 ^ 64 - 1) ≡ 2 ^ 32 - 1
+longest_short = refl
+
+drift_of_a_second : drift_of 4294967296 15 ≡ 64425
+drift_of_a_second = refl
+
+-- a jitter of two offsets, 0 and 3000 apart
+root_of_a_jitter : 2121 ≡ root 4500000
+root_of_a_jitter = root_is 4500000 2121 record { square_within = lit≤ tt; greatest = lit< tt }
