@@ -1,3 +1,4 @@
+pub mod OrderLemmas
 pub mod RootLemmas
 pub mod TimeLemmas
 mod StandardFacts

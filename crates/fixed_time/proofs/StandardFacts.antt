@@ -39,3 +39,10 @@ drift_of_a_second = refl
 -- a jitter of two offsets, 0 and 3000 apart
 root_of_a_jitter : 2121 ≡ root 4500000
 root_of_a_jitter = root_is 4500000 2121 record { square_within = lit≤ tt; greatest = lit< tt }
+
+-- 1, 4 and 2 in order, where the two ones are told apart by the second number
+ones_as_they_stood : arranged (λ (x : ℕ × ℕ). x.0) ((1, 7) ∷ (4, 0) ∷ (1, 8) ∷ (2, 0) ∷ []) ≡ (1, 7) ∷ (1, 8) ∷ (2, 0) ∷ (4, 0) ∷ []
+ones_as_they_stood = refl
+
+apart_by_the_cap : squared_apart_of (negsuc (2 ^ 63 - 1)) (pos (2 ^ 63 - 1)) ≡ 2 ^ 120
+apart_by_the_cap = refl

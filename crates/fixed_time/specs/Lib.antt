@@ -1,2 +1,4 @@
+pub mod Apart
+pub mod Order
 pub mod Root
 pub mod Time
