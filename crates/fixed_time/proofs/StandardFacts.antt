@@ -1,7 +1,9 @@
--- Worked values: the offset and the delay of a reply over the end of an era (RFC 5905, section 8, figure 15).
-use Rattle.std.proofs.Common.{◌≡◌, ℕ, pos, negsuc, ◌-◌, ◌^◌, ◌+ℤ◌, ◌-ℤ◌, refl, lit≤, lit<}
+-- Worked values. The first two are the offset and the delay of a reply over the end of an era (RFC 5905, section 8, figure 15).
+use Rattle.std.proofs.Common.{◌≡◌, ℕ, [], ◌∷◌, pos, negsuc, ◌-◌, ◌^◌, ◌+ℤ◌, ◌-ℤ◌, refl, lit≤, lit<}
 use Rattle.std.specs.Prelude.{int_div}
 use Rattle.fixed_time.specs.Time.{diff_of, shifted, to_short_of, drift_of}
+use Rattle.fixed_time.specs.Apart.{squared_apart_of}
+use Rattle.fixed_time.specs.Order.{arranged}
 use Rattle.fixed_time.specs.Root.{root}
 use Rattle.fixed_time.proofs.RootLemmas.{root_is}
 
