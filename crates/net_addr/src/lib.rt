@@ -5,5 +5,9 @@
 #![tactic(auto)]
 
 pub mod addr;
+pub mod addr_text;
+pub mod reader;
 
 pub use addr::{Addr, Ip};
+pub use addr_text::{AddrText, write_text};
+pub use reader::{read_named, read_text};

@@ -1,0 +1,118 @@
+ghost use Rattle.std.specs.Prelude.{◌≡◌, ◌+◌, ◌^◌, ◌<◌, ◌≤◌, [], ◌∷◌, ◌++◌, length, decimal};
+ghost use Rattle.std.specs.Net.Text.{ipv4_text};
+ghost use Rattle.net_addr.specs.Spelling.{ip_text, text_of, IsIp, IsAddr};
+ghost use Rattle.net_addr.specs.declared.addr.Ip.{Ip};
+
+use crate::addr::{Addr, Ip};
+use itoa::Buffer;
+use std::marker::Model;
+
+/// The most octets that a text has.
+const CAPACITY: usize = 48;
+
+/// The text of an address: a list of octets, kept in place.
+#[derive(Drop)]
+pub struct AddrText {
+    octets: [u8; CAPACITY],
+    used: usize,
+}
+
+impl Model for AddrText {
+    ghost use Rattle.std.specs.Prelude.{ℕ, ◌≤◌, List, take};
+    ghost use Rattle.net_addr.specs.declared.addr_text.TheConstants.{CAPACITY};
+
+    ghost Value = { List ℕ };
+
+    ghost view = { λ t. take t.used t.octets };
+
+    ghost invariant = { λ t. t.used ≤ CAPACITY };
+}
+
+impl AddrText {
+    fn new() -> AddrText
+        ensures { result ≡ [] }
+    {
+        AddrText {
+            octets: [0; CAPACITY],
+            used: 0,
+        }
+    }
+
+    /// The number of octets.
+    pub fn len(&self) -> usize
+        ensures value { result ≡ length self.now }
+        ensures bound { result ≤ CAPACITY }
+    {
+        self.used
+    }
+
+    /// The octets.
+    pub fn as_slice(&self) -> &[u8]
+        ensures value { result.now ≡ self.now }
+        ensures bound { length result.now ≤ CAPACITY }
+    {
+        &self.octets[..self.used]
+    }
+
+    fn append(&mut self, more: &[u8])
+        requires { length self.old + length more.now ≤ CAPACITY }
+        ensures { self.new ≡ self.old ++ more.now }
+    {
+        let end = self.used + more.len();
+        self.octets[self.used..end].copy_from_slice(more);
+        self.used = end;
+    }
+
+    // A number of 16 bits has five digits at most.
+    fn append_decimal(&mut self, n: u16)
+        requires { length self.old + 5 ≤ CAPACITY }
+        ensures text { self.new ≡ self.old ++ decimal n }
+        ensures grows { length self.new ≤ length self.old + 5 }
+    {
+        let mut digits = Buffer::new();
+        self.append(digits.format(n).as_bytes());
+    }
+
+    fn append_after(&mut self, mark: u8, n: u16)
+        requires { length self.old + 6 ≤ CAPACITY }
+        ensures text { self.new ≡ self.old ++ mark ∷ [] ++ decimal n }
+        ensures fits { n < 2 ^ 16 }
+        ensures grows { length self.new ≤ length self.old + 6 }
+    {
+        self.append(&[mark]);
+        self.append_decimal(n);
+    }
+}
+
+fn ipv4_text(octets: &[u8; 4]) -> AddrText
+    ensures text { result ≡ ipv4_text octets.now }
+    ensures fits { IsIp (Ip.V4 octets.now) }
+    ensures short { length result ≤ 23 }
+{
+    let mut text = AddrText::new();
+    text.append_decimal(u16::from(octets[0]));
+    text.append_after(b'.', u16::from(octets[1]));
+    text.append_after(b'.', u16::from(octets[2]));
+    text.append_after(b'.', u16::from(octets[3]));
+    text
+}
+
+fn ip_text(ip: &Ip) -> AddrText
+    ensures text { result ≡ ip_text ip.now }
+    ensures fits { IsIp ip.now }
+    ensures short { length result ≤ 23 }
+{
+    match ip {
+        Ip::V4(octets) => ipv4_text(octets),
+    }
+}
+
+/// The text of an address: of `1.2.3.4` and port 123, `1.2.3.4:123`.
+pub fn write_text(a: &Addr) -> AddrText
+    ensures text { result ≡ text_of a.now }
+    ensures fits { IsAddr a.now }
+{
+    let mut text = ip_text(&a.ip);
+    text.append_after(b':', a.port);
+    text
+}
