@@ -1,13 +1,13 @@
-// A library with one function.
+//! The NTP packet header: 48 octets to a value, and back (RFC 5905, section 7.3).
+//!
+//! Layer 3. Stands on: `fixed_time`.
+//! Promises: a header is read exactly where the octets spell one; what is written is read back.
 #![tactic(auto)]
 
-ghost use Rattle.std.specs.Prelude.{◌≡◌};
-ghost use Rattle.ntp_packet.specs.Echo.{echo_of};
+pub mod packet;
+pub mod reading;
+pub mod writing;
 
-// The `ensures` clause is the contract: what `echo` returns is `echo_of` of its argument, a definition
-// in `specs/Echo.antt`, which a caller's clause can cite too.
-pub fn echo(x: usize) -> usize
-    ensures { result ≡ echo_of x }
-{
-    x
-}
+pub use packet::{HEADER_LEN, Header, PacketFault};
+pub use reading::read;
+pub use writing::write;
