@@ -1,0 +1,43 @@
+ghost use Rattle.std.specs.Prelude.{◌≡◌, ◌≤◌, ◌<◌, length};
+ghost use Rattle.ntp_packet.specs.Packet.{IsPacket, mode_of};
+
+use fixed_time::Ntp64;
+use net_addr::Addr;
+
+/// The mode of a client's request (RFC 5905, section 7.3, figure 10).
+pub const MODE_CLIENT: u8 = 3;
+
+/// What a client's request for the time says that its reply depends on.
+#[derive(Clone, Copy, Debug, PartialEq, Eq)]
+pub struct Ask {
+    /// Where the request came from.
+    pub from: Addr,
+    /// The version of the request, 1 to 4.
+    pub version: u8,
+    /// The poll interval of the client, in log2 seconds.
+    pub poll: i8,
+    /// When the request left its client, by the client's clock.
+    pub transmit: Ntp64,
+    pub ghost version_least: { 1 ≤ version },
+    pub ghost version_most: { version ≤ 4 },
+}
+
+/// Why a datagram gets no answer, whatever the server's state.
+#[derive(Clone, Copy, Debug, PartialEq, Eq)]
+pub enum Unheard {
+    /// It is no packet: 1 it is too short, 2 its version is not served.
+    Packet(u8),
+    /// What follows its header is refused: 4 it is no MAC.
+    Trailer(u8),
+    /// It is of this mode, which is not served.
+    Unserved(u8),
+}
+
+/// What a datagram asks for.
+#[derive(Clone, Copy, Debug, PartialEq, Eq)]
+pub enum Class {
+    /// Nothing that is answered.
+    Silent(Unheard),
+    /// The time.
+    Time(Ask),
+}

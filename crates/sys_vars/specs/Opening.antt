@@ -1,0 +1,41 @@
+-- What a server publishes before it knows the time: our own rule, after RFC 5905, sections 7.3 and 11.1.
+use Rattle.std.specs.Prelude.{◌*◌, ◌^◌, codes, pos, negsuc}
+use Rattle.std.proofs.Common.{lit≤}
+use Rattle.fixed_time.specs.declared.time.Ntp64.{Ntp64}
+use Rattle.discipline.specs.declared.state.State.TheVariants.{Nset}
+use Rattle.sys_vars.specs.declared.published.Record.{Record}
+use Rattle.sys_vars.specs.declared.system.System.{System}
+
+-- the system of a server that knows no time yet: not synchronized, with a dispersion of 16 seconds
+abbrev pub opening_system : System
+opening_system = record {
+  leap = 3;
+  stratum = 16;
+  precision = negsuc 19;
+  root_delay = 0;
+  root_disp = 16 * 2 ^ 32;
+  refid = codes "INIT";
+  reference = record { 0 = 0 };
+  at = 0;
+  peer = 0;
+  poll = 6;
+  offset = record { 0 = pos 0 };
+  freq = pos 0;
+  jitter = 0;
+  state = Nset;
+  source = 0;
+  events = 1;
+  code = 1;
+  leap_in = lit≤ tt;
+  source_in = lit≤ tt;
+  events_in = lit≤ tt;
+  code_in = lit≤ tt;
+}
+
+-- the first record of a server: that system, and a clock that counts from the origin
+abbrev pub opening_record : Ntp64 → Record
+opening_record origin = record {
+  epoch = 0;
+  system = opening_system;
+  clock = record { base = 0; ntp = origin; freq = pos 0; slew = pos 0 };
+}

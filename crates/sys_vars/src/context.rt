@@ -1,0 +1,13 @@
+use edge_traits::Salt;
+use fixed_time::Ntp64;
+
+/// What an answer needs to know beside the record: of the server, and of the moment.
+#[derive(Clone, Copy)]
+pub struct Context {
+    /// The server's secret.
+    pub salt: Salt,
+    /// The time at which the server's clocks begin.
+    pub origin: Ntp64,
+    /// When the request came, in units of 2^-32 seconds after the origin.
+    pub moment: u64,
+}

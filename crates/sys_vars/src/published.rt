@@ -1,0 +1,61 @@
+ghost use Rattle.std.specs.Prelude.{◌≡◌};
+ghost use Rattle.sys_vars.specs.Opening.{opening_system, opening_record};
+
+use crate::system::System;
+use discipline::{SoftClock, State};
+use fixed_time::{Ntp64, Span};
+
+/// What a server publishes: the values of the system and its clock, of one moment.
+#[derive(Clone, Copy, Debug, PartialEq, Eq)]
+pub struct Record {
+    /// The number of the publication.
+    pub epoch: u64,
+    /// The values of the system.
+    pub system: System,
+    /// The clock that gives the time.
+    pub clock: SoftClock,
+}
+
+impl Record {
+    /// What a server publishes before it knows the time: it is not synchronized, and its clock begins
+    /// at the origin.
+    pub fn opening(origin: Ntp64) -> Record
+        ensures { result ≡ opening_record origin }
+    {
+        Record {
+            epoch: 0,
+            system: opening_system(),
+            clock: SoftClock {
+                base: 0,
+                ntp: origin,
+                freq: 0,
+                slew: 0,
+            },
+        }
+    }
+}
+
+/// The system of a server that knows no time yet.
+fn opening_system() -> System
+    ensures { result ≡ opening_system }
+{
+    System {
+        leap: 3,
+        stratum: 16,
+        precision: -20,
+        root_delay: 0,
+        root_disp: 16 << 32,
+        refid: *b"INIT",
+        reference: Ntp64(0),
+        at: 0,
+        peer: 0,
+        poll: 6,
+        offset: Span(0),
+        freq: 0,
+        jitter: 0,
+        state: State::Nset,
+        source: 0,
+        events: 1,
+        code: 1,
+    }
+}
