@@ -1,0 +1,201 @@
+ghost use Rattle.std.specs.Prelude.{◌≡◌, ◌+◌, ◌*◌, ◌/◌, ◌%◌, ◌^◌};
+ghost use Rattle.std.specs.Duration.{as_nanos};
+
+use crate::host::{Host, HostFault};
+use crate::salt::Salt;
+use crate::udp_port::UdpPort;
+use crate::uptime::{Uptime, units_of};
+use fixed_time::Ntp64;
+use net_addr::Addr;
+use std::net::Net;
+use std::random::RandomSource;
+use std::time;
+use std::time::{Duration, Instant};
+
+/// The seconds from the epoch of NTP, 1900, to that of the system, 1970 (RFC 5905, section 6).
+const SECONDS_TO_1970: u128 = 2_208_988_800;
+
+/// The machine that the program runs on. All of its clocks begin at the moment at which it was
+/// made, so that its origin and a reading make the wall clock's time, but for later steps of that.
+#[derive(Drop)]
+pub struct RealHost<S> {
+    system: S,
+    begin: Option<Instant>,
+    origin: Ntp64,
+    salt: Salt,
+    faults: u64,
+}
+
+impl<S: Net + time::Clock + RandomSource + Copy> RealHost<S> {
+    /// The origin is 0 where the wall clock can't be read, and the salt has zero octets where the
+    /// system gives no random ones.
+    pub fn new(system: S) -> RealHost<S>
+        ensures { ⟦<RealHost<S> as Host>⟧.faults result ≡ 0 }
+    {
+        // The two clocks are read one right after the other.
+        let begin = Instant::now(&system).ok();
+        let since_1970 = system.since_1970();
+        RealHost {
+            system,
+            begin,
+            origin: since_1970.map_or(Ntp64(0), timestamp),
+            salt: random_salt(&system),
+            faults: 0,
+        }
+    }
+}
+
+impl<S: Net + time::Clock + RandomSource + Copy> Host for RealHost<S> {
+    ghost use Rattle.std.specs.Prelude.{None};
+
+    type P = UdpPort;
+
+    type C = Uptime<S>;
+
+    ghost binds = { λ _. None };
+
+    ghost faults = { λ h. h.faults };
+
+    ghost origin = { λ h. h.origin };
+
+    ghost salt = { λ h. h.salt };
+
+    fn bind(&mut self, at: &Addr) -> Result<UdpPort, HostFault> {
+        match UdpPort::bind(&self.system, at) {
+            Ok(port) => Ok(port),
+            Err(_) => {
+                self.faults = self.faults.saturating_add(1);
+                Err(HostFault::Failed)
+            }
+        }
+    }
+
+    fn clock(&mut self) -> Uptime<S> {
+        Uptime::since(self.system, self.begin)
+    }
+
+    fn origin(&mut self) -> Ntp64 {
+        self.origin
+    }
+
+    fn salt(&mut self) -> Salt {
+        self.salt
+    }
+}
+
+/// The NTP timestamp of the moment so long after the start of 1970, rounded down.
+fn timestamp(since_1970: Duration) -> Ntp64
+    ensures { result.0
+        ≡ (SECONDS_TO_1970 * 2 ^ 32 + as_nanos since_1970 * 2 ^ 32 / 10 ^ 9) % 2 ^ 64 }
+{
+    let units = (SECONDS_TO_1970 << 32) + units_of(since_1970);
+    Ntp64((units % (1 << 64)) as u64)
+}
+
+fn random_salt(source: &impl RandomSource) -> Salt {
+    let mut octets = [0; 16];
+    match source.fill_bytes(&mut octets) {
+        Ok(()) => Salt(octets),
+        Err(_) => Salt([0; 16]),
+    }
+}
+
+#[cfg(test)]
+mod tests {
+    use super::*;
+    use crate::clock::Clock;
+    use net_addr::Ip;
+    use std::io;
+    use std::net::{SocketAddr, TcpListener, TcpStream};
+    use std::test::Fail;
+
+    #[test]
+    fn a_timestamp_counts_from_1900_in_its_era(rt: HostRuntime) {
+        // The table of RFC 5905, section 4: the last day of NTP's first era, the first of its next.
+        let first_of_next_era = 2_085_978_496;
+        for (secs, nanos, stamp, what) in [
+            (0, 0, 0x83aa_7e80_0000_0000, "the start of 1970"),
+            (946_684_800, 500_000_000, 0xbc17_c200_8000_0000, "2000"),
+            (first_of_next_era, 0, 0, "8 February 2036"),
+        ] {
+            let since_1970 = Duration::new(secs, nanos);
+            assert_eq!(rt; timestamp(since_1970), Ntp64(stamp), "{what}");
+        }
+    }
+
+    #[test]
+    fn a_host_has_a_wall_clock_a_salt_and_ports(rt: HostRuntime) -> Result<(), Fail> {
+        let mut host = RealHost::new(rt);
+        // The first day of 2025 began 3,944,678,400 seconds after 1900 did.
+        assert!(rt; host.origin().0 >> 32 >= 3_944_678_400);
+        assert_eq!(rt; host.origin(), host.origin());
+        let salt = host.salt();
+        assert_eq!(rt; host.salt().0, salt.0);
+        assert_ne!(rt; salt.0, [0; 16]);
+
+        let at = Addr {
+            ip: Ip::V4([127, 0, 0, 1]),
+            port: 0,
+        };
+        let port = host.bind(&at)?;
+        let taken = port.local().ok_or("the system tells no address")?;
+        assert!(rt; matches!(host.bind(&taken), Err(HostFault::Failed)));
+        Ok(())
+    }
+
+    #[test]
+    fn the_clocks_of_a_host_begin_together(rt: HostRuntime) {
+        let mut host = RealHost::new(rt);
+        let reading = host.clock().now();
+        assert!(rt; host.clock().now() >= reading);
+    }
+
+    /// A system on which each call fails.
+    #[derive(Clone, Copy)]
+    struct Broken;
+
+    fn refusal() -> io::Error {
+        io::Error::from(io::ErrorKind::Unsupported)
+    }
+
+    impl time::Clock for Broken {
+        fn monotonic(&self) -> io::Result<Duration> {
+            Err(refusal())
+        }
+
+        fn since_1970(&self) -> io::Result<Duration> {
+            Err(refusal())
+        }
+    }
+
+    impl RandomSource for Broken {
+        fn fill_bytes(&self, buf: &mut [u8]) -> io::Result<()> {
+            if let Some(first) = buf.first_mut() {
+                *first = 7;
+            }
+            Err(refusal())
+        }
+    }
+
+    impl Net for Broken {
+        type Stream = TcpStream;
+
+        type Listener = TcpListener;
+
+        fn bind(&self, _addr: SocketAddr) -> io::Result<TcpListener> {
+            Err(refusal())
+        }
+
+        fn connect(&self, _addr: SocketAddr) -> io::Result<TcpStream> {
+            Err(refusal())
+        }
+    }
+
+    #[test]
+    fn a_broken_system_gives_no_origin_and_no_salt(rt: HostRuntime) {
+        let mut host = RealHost::new(Broken);
+        assert_eq!(rt; host.origin(), Ntp64(0));
+        assert_eq!(rt; host.salt().0, [0; 16]);
+        assert_eq!(rt; host.clock().now(), 0);
+    }
+}

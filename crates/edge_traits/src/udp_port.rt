@@ -1,0 +1,188 @@
+ghost use Rattle.std.specs.Prelude.{◌≡◌, IfOk};
+ghost use Rattle.std.specs.Net.Addr.{ipv4_octets};
+ghost use Rattle.std.specs.Net.Socket.{v4_ip, v4_port};
+
+use crate::octets::Octets;
+use crate::port::{Port, PortFault, Taken};
+use net_addr::{Addr, Ip};
+use std::io;
+use std::io::ErrorKind;
+use std::net::{Ipv4Addr, Net, SocketAddr, SocketAddrV4, UdpSocket};
+use std::time::Duration;
+
+/// How long a take waits for a datagram, in seconds.
+const WAIT: u64 = 1;
+
+/// A UDP socket of the system, for IPv4. A take waits one second for a datagram before it is quiet.
+/// The port is never closed, and tells nothing of its datagrams.
+#[derive(Drop)]
+pub struct UdpPort {
+    socket: UdpSocket,
+    address: Addr,
+    // A take receives here, since std does not say what a receive that fails leaves in its buffer.
+    // What came before is still there, so that no take has to clear it.
+    received: [u8; 2048],
+    faults: u64,
+    quiets: u64,
+}
+
+impl UdpPort {
+    /// A port of this address; at port 0 the system chooses one, which `local` tells. The error is
+    /// the system's.
+    pub fn bind<N: Net>(net: &N, at: &Addr) -> io::Result<UdpPort>
+        ensures address { IfOk result (λ p. ⟦<UdpPort as Port>⟧.address p ≡ at.now) }
+        ensures faults { IfOk result (λ p. ⟦<UdpPort as Port>⟧.faults p ≡ 0) }
+        ensures quiets { IfOk result (λ p. ⟦<UdpPort as Port>⟧.quiets p ≡ 0) }
+    {
+        let socket = UdpSocket::bind(net, socket_address(at))?;
+        socket.set_read_timeout(Some(Duration::from_secs(WAIT)))?;
+        Ok(UdpPort {
+            socket,
+            address: *at,
+            received: [0; 2048],
+            faults: 0,
+            quiets: 0,
+        })
+    }
+
+    /// The address that the system gave the socket; None where the system does not tell it.
+    pub fn local(&self) -> Option<Addr> {
+        match self.socket.local_addr() {
+            Ok(SocketAddr::V4(local)) => Some(address_of(local)),
+            _ => None,
+        }
+    }
+}
+
+impl Port for UdpPort {
+    ghost use Rattle.std.specs.Prelude.{None, false};
+    ghost use Rattle.edge_traits.specs.declared.octets.TheConstants.{MAX_OCTETS};
+
+    ghost trace = { λ _. None };
+
+    ghost faults = { λ p. p.faults };
+
+    ghost quiets = { λ p. p.quiets };
+
+    ghost is_closed = { λ _. false };
+
+    ghost address = { λ p. p.address };
+
+    ghost most = { λ _. MAX_OCTETS };
+
+    fn take(&mut self, into: &mut Octets) -> Result<Taken, PortFault> {
+        match self.socket.recv_from(&mut self.received) {
+            Ok((length, SocketAddr::V4(from))) => {
+                into.clear();
+                into.put(&self.received[..length]);
+                Ok(Taken::Datagram(address_of(from)))
+            }
+            // A socket for IPv4 hears of no other sender.
+            Ok((_, SocketAddr::V6(_))) => {
+                self.quiets = self.quiets.saturating_add(1);
+                Ok(Taken::Quiet)
+            }
+            Err(error) if is_quiet(error.kind()) => {
+                self.quiets = self.quiets.saturating_add(1);
+                Ok(Taken::Quiet)
+            }
+            Err(_) => {
+                self.faults = self.faults.saturating_add(1);
+                Err(PortFault::Failed)
+            }
+        }
+    }
+
+    fn give(&mut self, to: &Addr, octets: &[u8]) -> Result<(), PortFault> {
+        match self.socket.send_to(octets, socket_address(to)) {
+            Ok(sent) if sent == octets.len() => Ok(()),
+            _ => {
+                self.faults = self.faults.saturating_add(1);
+                Err(PortFault::Failed)
+            }
+        }
+    }
+}
+
+/// Whether a receive that failed in this way says only that nothing came.
+fn is_quiet(kind: ErrorKind) -> bool {
+    match kind {
+        ErrorKind::WouldBlock | ErrorKind::TimedOut | ErrorKind::Interrupted => true,
+        // Linux tells a socket's next call that a datagram sent before was refused where it went
+        // (an ICMP answer). The socket itself is sound, and no client may stop a server by this.
+        ErrorKind::ConnectionRefused => true,
+        _ => false,
+    }
+}
+
+fn socket_address(at: &Addr) -> SocketAddrV4
+    ensures ip { Ip.V4 (ipv4_octets (v4_ip result)) ≡ at.now.ip }
+    ensures port { v4_port result ≡ at.now.port }
+{
+    match at.ip {
+        Ip::V4(octets) => SocketAddrV4::new(Ipv4Addr::from_octets(octets), at.port),
+    }
+}
+
+fn address_of(at: SocketAddrV4) -> Addr
+    ensures ip { result.ip ≡ Ip.V4 (ipv4_octets (v4_ip at)) }
+    ensures port { result.port ≡ v4_port at }
+{
+    Addr {
+        ip: Ip::V4(at.ip().octets()),
+        port: at.port(),
+    }
+}
+
+#[cfg(test)]
+mod tests {
+    use super::*;
+    use std::test::Fail;
+
+    const ANY_PORT: Addr = Addr {
+        ip: Ip::V4([127, 0, 0, 1]),
+        port: 0,
+    };
+
+    fn moves_to_a_thread<T: Send>(_port: &T) {}
+
+    #[test]
+    fn a_datagram_sent_to_itself_is_taken_and_then_it_is_quiet(
+        rt: HostRuntime,
+    ) -> Result<(), Fail> {
+        let mut port = UdpPort::bind(&rt, &ANY_PORT)?;
+        moves_to_a_thread(&port);
+        let local = port.local().ok_or("the system tells no address")?;
+        assert_eq!(rt; local.ip, ANY_PORT.ip);
+        assert_ne!(rt; local.port, 0);
+
+        let mut into = Octets::new();
+        port.give(&local, b"\x23\x00\x06\xec")?;
+        assert_eq!(rt; port.take(&mut into)?, Taken::Datagram(local));
+        assert_eq!(rt; into.as_slice(), b"\x23\x00\x06\xec".as_slice());
+
+        assert_eq!(rt; port.take(&mut into)?, Taken::Quiet);
+        assert_eq!(rt; into.as_slice(), b"\x23\x00\x06\xec".as_slice());
+        Ok(())
+    }
+
+    #[test]
+    fn a_datagram_of_3000_octets_is_cut_at_2048(rt: HostRuntime) -> Result<(), Fail> {
+        let mut port = UdpPort::bind(&rt, &ANY_PORT)?;
+        let local = port.local().ok_or("the system tells no address")?;
+        let sender = UdpSocket::bind(&rt, socket_address(&ANY_PORT))?;
+        sender.send_to(&[7; 3000], socket_address(&local))?;
+
+        let mut into = Octets::new();
+        port.take(&mut into)?;
+        assert_eq!(rt; into.as_slice(), [7; 2048].as_slice());
+        Ok(())
+    }
+
+    #[test]
+    fn a_datagram_to_port_0_fails(rt: HostRuntime) -> Result<(), Fail> {
+        let mut port = UdpPort::bind(&rt, &ANY_PORT)?;
+        assert_eq!(rt; port.give(&ANY_PORT, b"lost"), Err(PortFault::Failed));
+        Ok(())
+    }
+}
