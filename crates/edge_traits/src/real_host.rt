@@ -16,7 +16,7 @@ use std::time::{Duration, Instant};
 const SECONDS_TO_1970: u128 = 2_208_988_800;
 
 /// The machine that the program runs on. All of its clocks begin at the moment at which it was
-/// made, so that its origin and a reading make the wall clock's time, but for later steps of that.
+/// made, so its origin and a reading add up to the wall clock's time, until that clock is set.
 #[derive(Drop)]
 pub struct RealHost<S> {
     system: S,
@@ -34,11 +34,11 @@ impl<S: Net + time::Clock + RandomSource + Copy> RealHost<S> {
     {
         // The two clocks are read one right after the other.
         let begin = Instant::now(&system).ok();
-        let since_1970 = system.since_1970();
+        let origin = wall_time(&system);
         RealHost {
             system,
             begin,
-            origin: since_1970.map_or(Ntp64(0), timestamp),
+            origin,
             salt: random_salt(&system),
             faults: 0,
         }
@@ -92,6 +92,10 @@ fn timestamp(since_1970: Duration) -> Ntp64
     Ntp64((units % (1 << 64)) as u64)
 }
 
+fn wall_time(clock: &impl time::Clock) -> Ntp64 {
+    clock.since_1970().map_or(Ntp64(0), timestamp)
+}
+
 fn random_salt(source: &impl RandomSource) -> Salt {
     let mut octets = [0; 16];
     match source.fill_bytes(&mut octets) {
@@ -106,17 +110,22 @@ mod tests {
     use crate::clock::Clock;
     use net_addr::Ip;
     use std::io;
-    use std::net::{SocketAddr, TcpListener, TcpStream};
+    use std::io::ErrorKind;
     use std::test::Fail;
 
     #[test]
     fn a_timestamp_counts_from_1900_in_its_era(rt: HostRuntime) {
-        // The table of RFC 5905, section 4: the last day of NTP's first era, the first of its next.
-        let first_of_next_era = 2_085_978_496;
+        // The days of RFC 5905, section 6, figure 4. Era 1 begins 2^32 - 2,208,988,800 seconds after
+        // 1970 does.
         for (secs, nanos, stamp, what) in [
-            (0, 0, 0x83aa_7e80_0000_0000, "the start of 1970"),
-            (946_684_800, 500_000_000, 0xbc17_c200_8000_0000, "2000"),
-            (first_of_next_era, 0, 0, "8 February 2036"),
+            (0, 0, 2_208_988_800 << 32, "the first day of UNIX"),
+            (
+                946_598_400,
+                500_000_000,
+                (3_155_587_200 << 32) + (1 << 31),
+                "the last of 1999",
+            ),
+            (2_085_978_496, 0, 0, "the first of era 1"),
         ] {
             let since_1970 = Duration::new(secs, nanos);
             assert_eq!(rt; timestamp(since_1970), Ntp64(stamp), "{what}");
@@ -150,21 +159,17 @@ mod tests {
         assert!(rt; host.clock().now() >= reading);
     }
 
-    /// A system on which each call fails.
-    #[derive(Clone, Copy)]
+    /// A system whose wall clock can't be read, and whose random source fails after one octet.
+    #[derive(Drop)]
     struct Broken;
-
-    fn refusal() -> io::Error {
-        io::Error::from(io::ErrorKind::Unsupported)
-    }
 
     impl time::Clock for Broken {
         fn monotonic(&self) -> io::Result<Duration> {
-            Err(refusal())
+            Ok(Duration::ZERO)
         }
 
         fn since_1970(&self) -> io::Result<Duration> {
-            Err(refusal())
+            Err(io::Error::from(ErrorKind::Unsupported))
         }
     }
 
@@ -173,29 +178,13 @@ mod tests {
             if let Some(first) = buf.first_mut() {
                 *first = 7;
             }
-            Err(refusal())
-        }
-    }
-
-    impl Net for Broken {
-        type Stream = TcpStream;
-
-        type Listener = TcpListener;
-
-        fn bind(&self, _addr: SocketAddr) -> io::Result<TcpListener> {
-            Err(refusal())
-        }
-
-        fn connect(&self, _addr: SocketAddr) -> io::Result<TcpStream> {
-            Err(refusal())
+            Err(io::Error::from(ErrorKind::Unsupported))
         }
     }
 
     #[test]
     fn a_broken_system_gives_no_origin_and_no_salt(rt: HostRuntime) {
-        let mut host = RealHost::new(Broken);
-        assert_eq!(rt; host.origin(), Ntp64(0));
-        assert_eq!(rt; host.salt().0, [0; 16]);
-        assert_eq!(rt; host.clock().now(), 0);
+        assert_eq!(rt; wall_time(&Broken), Ntp64(0));
+        assert_eq!(rt; random_salt(&Broken).0, [0; 16]);
     }
 }

@@ -33,7 +33,7 @@ impl<S: time::Clock> Uptime<S> {
     }
 
     /// A clock that begins at `begin`, or where there is none, at its first reading.
-    pub fn since(system: S, begin: Option<Instant>) -> Uptime<S>
+    pub(crate) fn since(system: S, begin: Option<Instant>) -> Uptime<S>
         ensures { result ≡ 0 }
     {
         Uptime {
