@@ -115,17 +115,16 @@ mod tests {
 
     #[test]
     fn a_timestamp_counts_from_1900_in_its_era(rt: HostRuntime) {
-        // The days of RFC 5905, section 6, figure 4. Era 1 begins 2^32 - 2,208,988,800 seconds after
-        // 1970 does.
+        // Days of RFC 5905, section 6, figure 4; the last of them lies in the next era.
         for (secs, nanos, stamp, what) in [
-            (0, 0, 2_208_988_800 << 32, "the first day of UNIX"),
+            (0, 0, 2_208_988_800 << 32, "1 January 1970"),
             (
                 946_598_400,
                 500_000_000,
                 (3_155_587_200 << 32) + (1 << 31),
-                "the last of 1999",
+                "31 December 1999",
             ),
-            (2_085_978_496, 0, 0, "the first of era 1"),
+            (2_086_041_600, 0, 63_104 << 32, "8 February 2036"),
         ] {
             let since_1970 = Duration::new(secs, nanos);
             assert_eq!(rt; timestamp(since_1970), Ntp64(stamp), "{what}");
