@@ -10,7 +10,7 @@ use std::marker::Model;
 /// The most octets that a text has.
 const CAPACITY: usize = 48;
 
-/// The text of an address: a list of octets, kept in place.
+/// The text of an address: a list of at most 48 octets, kept in place.
 #[derive(Drop)]
 pub struct AddrText {
     octets: [u8; CAPACITY],
