@@ -1,8 +1,9 @@
 -- The reply to a client's request (RFC 5905, sections 7.3 and 9.2; the rounding is our own rule).
-use Rattle.std.specs.Prelude.{ℕ, ◌+◌, ◌-◌, ◌==◌, min, max, if◌then◌else◌}
+use Rattle.std.specs.Prelude.{ℕ, ◌+◌, ◌-◌, ◌==◌, min, max, if◌then◌else◌, List}
 use Rattle.fixed_time.specs.Time.{to_short_of, drift_of}
 use Rattle.discipline.specs.SoftClock.{clock_time}
 use Rattle.ntp_packet.specs.declared.packet.Header.{Header}
+use Rattle.ntp_packet.specs.Packet.{spelled_header}
 use Rattle.sys_vars.specs.declared.system.System.{System}
 use Rattle.server_core.specs.declared.class.Ask.{Ask}
 use Rattle.server_core.specs.declared.reply.Basis.{Basis}
@@ -35,3 +36,7 @@ reply_header basis ask came sent = record {
   receive = record { 0 = clock_time basis.clock came };
   transmit = record { 0 = clock_time basis.clock (max came sent) };
 }
+
+-- the octets of that reply
+unfoldable pub time_reply_of : Basis → Ask → ℕ → ℕ → List ℕ
+time_reply_of basis ask came sent = spelled_header (reply_header basis ask came sent)

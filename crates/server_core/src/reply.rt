@@ -1,13 +1,12 @@
-ghost use Rattle.std.specs.Prelude.{◌≡◌, ◌≤◌, ◌+◌};
+ghost use Rattle.std.specs.Prelude.{◌≡◌, ◌≤◌, length};
 ghost use Rattle.fixed_time.specs.Time.{to_short_of};
-ghost use Rattle.ntp_packet.specs.Packet.{spelled_header};
-ghost use Rattle.server_core.specs.Reply.{shown_stratum, root_dispersion_at, reply_header};
+ghost use Rattle.server_core.specs.Reply.{shown_stratum, root_dispersion_at, reply_header, time_reply_of};
 
 use crate::class::Ask;
 use discipline::SoftClock;
 use edge_traits::Octets;
 use fixed_time::{Short, drift, to_short};
-use ntp_packet::Header;
+use ntp_packet::{HEADER_LEN, Header};
 use sys_vars::System;
 
 /// The mode of a server's reply (RFC 5905, section 7.3, figure 10).
@@ -32,7 +31,8 @@ pub struct Basis {
 /// The reply to a request that came at the moment `came` and is answered at the moment `sent`.
 /// Its transmit time is never before its receive time.
 pub fn time_reply(basis: &Basis, ask: &Ask, came: u64, sent: u64) -> Octets
-    ensures { result ≡ spelled_header (reply_header basis.now ask.now came sent) }
+    ensures value { result ≡ time_reply_of basis.now ask.now came sent }
+    ensures len { length result ≡ HEADER_LEN }
 {
     let mut reply = Octets::new();
     reply.put(&ntp_packet::write(&header_of(basis, ask, came, sent)));

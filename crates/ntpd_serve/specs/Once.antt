@@ -1,0 +1,94 @@
+-- What `ntpd once` does at its port and its clock: one datagram, answered from the opening record (our own rule, over RFC 5905).
+use Rattle.std.specs.Prelude.{◌≡◌, ◌⊎◌, ◌<◌, ℕ, List, [], ◌∷◌, ◌++◌, replicate, Bool, IsTrue}
+use Rattle.fixed_time.specs.declared.time.Ntp64.{Ntp64}
+use Rattle.net_addr.specs.declared.addr.Addr.{Addr}
+use Rattle.edge_traits.specs.Told.{Rose}
+use Rattle.edge_traits.specs.declared.port.Event.{Event}
+use Rattle.edge_traits.specs.declared.port.Event.TheVariants.{Took, Silence, Sent}
+use Rattle.sys_vars.specs.Opening.{opening_record}
+use Rattle.server_core.specs.declared.class.Ask.{Ask}
+use Rattle.server_core.specs.declared.class.Class.TheVariants.{Silent as NotHeard, Time}
+use Rattle.server_core.specs.declared.reply.Basis.{Basis}
+use Rattle.server_core.specs.Class.{IsClass}
+use Rattle.server_core.specs.Reply.{time_reply_of}
+use Rattle.ntpd_serve.specs.declared.ending.Ending.{Ending}
+use Rattle.ntpd_serve.specs.declared.ending.Ending.TheVariants.{Answered, Silent, Words, HostFailed, PortFailed, Quiet, Closed, NoMemory}
+use Rattle.ntpd_serve.specs.declared.once.TheConstants.{PATIENCE}
+
+-- so many takes in a row that found nothing
+unfoldable pub silences : ℕ → List Event
+silences n = replicate n Silence
+
+-- what each request is served from: over plain rules and an empty client list that is the opening record
+abbrev pub opening_basis : Ntp64 → Basis
+opening_basis origin =
+    record { system = (opening_record origin).system; clock = (opening_record origin).clock }
+
+-- the reply to a request that came at one moment and is answered at another
+abbrev pub reply_octets : Ntp64 → Ask → ℕ → ℕ → List ℕ
+reply_octets origin = time_reply_of (opening_basis origin)
+
+-- a request for the time came; the clock was read when it was classed, and again before the reply
+pub record IsAsked (from : Addr) (octets : List ℕ) (readings : List ℕ) : Type 0 where
+  pub ask : Ask
+  pub came : ℕ
+  pub sent : ℕ
+  pub class : IsClass octets from (Time ask)
+  pub read : readings ≡ came ∷ sent ∷ []
+
+-- what follows a datagram at the port, and what is read of the clock, by how the call ends
+abbrev pub Follows : Ntp64 → Ending → Addr → List ℕ → List Event → List ℕ → Type 0
+Follows origin (Answered count) from octets events readings =
+    (asked : IsAsked from octets readings)
+    × (events ≡ Sent from (reply_octets origin asked.ask asked.came asked.sent) ∷ []) × (count ≡ 1)
+Follows origin (Silent why) from octets events readings =
+    (came : ℕ) × IsClass octets from (NotHeard why) × (events ≡ []) × (readings ≡ came ∷ [])
+Follows origin PortFailed from octets events readings = IsAsked from octets readings × (events ≡ [])
+Follows origin NoMemory from octets events readings = IsAsked from octets readings × (events ≡ [])
+Follows origin Words from octets events readings = ⊥
+Follows origin HostFailed from octets events readings = ⊥
+Follows origin Quiet from octets events readings = ⊥
+Follows origin Closed from octets events readings = ⊥
+
+-- a datagram came after fewer silences than end the call
+pub record Comes (origin : Ntp64) (ending : Ending) (events : List Event) (readings : List ℕ) : Type 0 where
+  pub quiets : ℕ
+  pub from : Addr
+  pub octets : List ℕ
+  pub after : List Event
+  pub in_time : quiets < PATIENCE
+  pub gained : events ≡ silences quiets ++ Took from octets ∷ after
+  pub follows : Follows origin ending from octets after readings
+
+-- nothing but silences came, by how the call ends
+abbrev pub OnlySilences : Ending → List Event → Type 0
+OnlySilences Quiet events = events ≡ silences PATIENCE
+OnlySilences PortFailed events = (quiets : ℕ) × (quiets < PATIENCE) × (events ≡ silences quiets)
+OnlySilences Closed events = (quiets : ℕ) × (quiets < PATIENCE) × (events ≡ silences quiets)
+OnlySilences NoMemory events = (quiets : ℕ) × (quiets < PATIENCE) × (events ≡ silences quiets)
+OnlySilences (Answered count) events = ⊥
+OnlySilences (Silent why) events = ⊥
+OnlySilences Words events = ⊥
+OnlySilences HostFailed events = ⊥
+
+-- what one call does at the port and the clock, by how it ends
+abbrev pub Happens : Ntp64 → Ending → List Event → List ℕ → Type 0
+Happens origin ending events readings =
+    Comes origin ending events readings ⊎ (OnlySilences ending events × (readings ≡ []))
+
+-- one datagram was given, or the port failed or had no memory
+abbrev pub GivesOne : Ending → Addr → List ℕ → List Event → Type 0
+GivesOne (Answered count) to octets events = (events ≡ Sent to octets ∷ []) × (count ≡ 1)
+GivesOne PortFailed to octets events = events ≡ []
+GivesOne NoMemory to octets events = events ≡ []
+GivesOne (Silent why) to octets events = ⊥
+GivesOne Words to octets events = ⊥
+GivesOne HostFailed to octets events = ⊥
+GivesOne Quiet to octets events = ⊥
+GivesOne Closed to octets events = ⊥
+
+-- what stands behind an ending: faults of the port that rose, takes that found nothing, or its end
+pub record Causes (ending : Ending) (faults faults' quiets quiets' : ℕ) (is_closed : Bool) : Type 0 where
+  pub failed : ending ≡ PortFailed → Rose 1 faults faults'
+  pub quiet : ending ≡ Quiet → Rose PATIENCE quiets quiets'
+  pub closed : ending ≡ Closed → IsTrue is_closed

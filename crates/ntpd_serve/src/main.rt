@@ -1,0 +1,33 @@
+//! The program `ntpd`: an NTP server. Today it serves one datagram, by `once ADDR:PORT`.
+//!
+//! Layer 7. Stands on: `server_core`, `sys_vars`, `edge_traits`, `net_addr`, `fixed_time`.
+//! Promises: `once` gives the defined answer to one datagram and nothing else, and prints the line
+//! of its status.
+#![tactic(auto)]
+
+mod command;
+mod ending;
+mod once;
+mod report;
+mod usage;
+
+use command::ntpd;
+use edge_traits::{OpenGate, RealHost, StandardOutput};
+use std::process::ExitCode;
+
+fn main(rt: HostRuntime) -> ExitCode {
+    let words = usage::words(&rt);
+    let mut out = StandardOutput::new(rt);
+    let status = match usage::notice_of(words.as_slice()) {
+        Some(notice) => usage::print(notice, &mut out),
+        None => ntpd(
+            &rt,
+            words.as_slice(),
+            &mut RealHost::new(rt),
+            &OpenGate,
+            &mut out,
+        )
+        .status,
+    };
+    ExitCode::from(status.0)
+}
