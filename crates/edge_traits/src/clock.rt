@@ -7,6 +7,7 @@ pub trait Clock {
     /// stop telling them.
     ghost readings: { Self → Option (List ℕ) };
 
+    /// How long it has been running, in units of 2^-32 seconds.
     fn now(&mut self) -> u64
         ensures { Grows (readings self.old) (readings self.new) (result ∷ []) };
 }

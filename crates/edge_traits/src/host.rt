@@ -14,14 +14,18 @@ use net_addr::Addr;
 /// Why a host failed.
 #[derive(Clone, Copy, Debug, PartialEq, Eq)]
 pub enum HostFault {
+    /// The host could not do it; its count of faults rose.
     Failed,
+    /// Memory was wanting.
     NoMemory,
 }
 
 /// The machine that a program runs on, or what stands for one.
 pub trait Host {
+    /// Its ports.
     type P: Port + Drop;
 
+    /// Its clocks.
     type C: Clock + Drop;
 
     /// The addresses at which ports were bound so far, oldest first, where they are told.

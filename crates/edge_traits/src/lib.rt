@@ -6,6 +6,7 @@
 //! comes only where the object's count of faults rose.
 #![tactic(auto)]
 
+mod calls;
 pub mod clock;
 pub mod gate;
 pub mod grams;

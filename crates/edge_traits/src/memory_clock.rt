@@ -1,5 +1,7 @@
-ghost use Rattle.std.specs.Prelude.{◌≡◌, [], Some};
-ghost use Rattle.edge_traits.specs.Memory.{IsNewClock, reading_at, readings_told};
+ghost use Rattle.std.specs.Prelude.{◌≡◌, ◌-◌, ◌<◌, ◌^◌, [], ◌∷◌, Some};
+ghost use Rattle.edge_traits.specs.Told.{gained, Grows};
+ghost use Rattle.edge_traits.specs.Counts.{next_count};
+ghost use Rattle.edge_traits.specs.Memory.{IsNewClock, reading_at, readings_given, readings_of, readings_told};
 
 use crate::clock::Clock;
 
@@ -12,8 +14,12 @@ pub struct MemoryClock {
 }
 
 impl MemoryClock {
+    /// A clock of these readings, in units of 2^-32 seconds.
     pub fn of(readings: Vec<u64>) -> MemoryClock
-        ensures { IsNewClock result }
+        ensures new { IsNewClock result }
+        ensures readings { readings_of result ≡ readings.items }
+        ensures given { readings_given result ≡ 0 }
+        ensures told { ⟦<MemoryClock as Clock>⟧.readings result ≡ Some [] }
     {
         MemoryClock { readings, given: 0 }
     }
@@ -34,7 +40,16 @@ impl MemoryClock {
 impl Clock for MemoryClock {
     ghost readings = { λ c. readings_told c.readings.items c.given };
 
-    fn now(&mut self) -> u64 {
+    fn now(&mut self) -> u64
+        ensures due { result ≡ reading_at (readings_of self.old) (readings_given self.old) }
+        ensures given { readings_given self.new ≡ next_count (readings_given self.old) }
+        ensures told { Grows (⟦<MemoryClock as Clock>⟧.readings self.old)
+            (⟦<MemoryClock as Clock>⟧.readings self.new) (result ∷ []) }
+        ensures told_while_counted { readings_given self.new < 2 ^ 64 - 1
+            → ⟦<MemoryClock as Clock>⟧.readings self.new
+            ≡ gained (⟦<MemoryClock as Clock>⟧.readings self.old) (result ∷ []) }
+        ensures readings_kept { readings_of self.new ≡ readings_of self.old }
+    {
         let reading = self.next_reading();
         self.given = self.given.saturating_add(1);
         reading

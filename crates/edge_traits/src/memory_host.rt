@@ -1,6 +1,7 @@
-ghost use Rattle.std.specs.Prelude.{◌≡◌, [], Some, All};
-ghost use Rattle.edge_traits.specs.Memory.{IsNewPort, IsNewClock};
+ghost use Rattle.std.specs.Prelude.{◌≡◌, [], Some, All, drop};
+ghost use Rattle.edge_traits.specs.Memory.{IsNewPort, IsNewClock, IsNextPort, IsNextClock};
 
+use crate::calls::Calls;
 use crate::host::{Host, HostFault};
 use crate::memory_clock::MemoryClock;
 use crate::memory_port::MemoryPort;
@@ -13,13 +14,14 @@ use std::alloc::Global;
 /// clocks likewise, and past their end clocks of no readings.
 #[derive(Drop)]
 pub struct MemoryHost {
+    /// The ports that binds are still to give, the next one first.
     pub ports: Vec<MemoryPort>,
+    /// The clocks that it is still to give, the next one first.
     pub clocks: Vec<MemoryClock>,
     alloc: Global,
     origin: Ntp64,
     salt: Salt,
-    failing: Vec<u64>,
-    calls: u64,
+    calls: Calls,
     bound: Vec<Addr>,
     faults: u64,
     ghost new_ports: { All IsNewPort ports.items },
@@ -27,6 +29,8 @@ pub struct MemoryHost {
 }
 
 impl MemoryHost {
+    ghost use Rattle.edge_traits.specs.MemoryHosts.{failing_binds, binds_made};
+
     /// A host of these ports and clocks, which were not called yet. The binds that `failing` numbers,
     /// from 0, fail.
     pub fn of(
@@ -45,6 +49,8 @@ impl MemoryHost {
         ensures origin { ⟦<MemoryHost as Host>⟧.origin result ≡ origin }
         ensures salt { ⟦<MemoryHost as Host>⟧.salt result ≡ salt }
         ensures faults { ⟦<MemoryHost as Host>⟧.faults result ≡ 0 }
+        ensures failing { failing_binds result ≡ failing.items }
+        ensures made { binds_made result ≡ 0 }
     {
         MemoryHost {
             ports,
@@ -52,32 +58,35 @@ impl MemoryHost {
             alloc,
             origin,
             salt,
-            failing,
-            calls: 0,
+            calls: Calls::of(failing),
             bound: Vec::new(alloc),
             faults: 0,
         }
     }
 }
 
-/// The first of the ports, or one of no datagrams.
-fn first_port(alloc: Global, ports: &mut Vec<MemoryPort>) -> MemoryPort
+/// The first of the ports, or one of no datagrams, now of this address.
+fn first_port(alloc: Global, ports: &mut Vec<MemoryPort>, at: Addr) -> MemoryPort
     requires { All IsNewPort ports.old.items }
+    ensures next { IsNextPort ports.old.items at result }
     ensures new { IsNewPort result }
-    ensures others { All IsNewPort ports.new.items }
+    ensures later { ports.new.items ≡ drop 1 ports.old.items }
+    ensures later_new { All IsNewPort ports.new.items }
 {
     if ports.is_empty() {
-        MemoryPort::of(alloc, Vec::new(alloc), Vec::new(alloc))
+        MemoryPort::of(alloc, Vec::new(alloc), Vec::new(alloc)).bound_at(at)
     } else {
-        ports.remove(0)
+        ports.remove(0).bound_at(at)
     }
 }
 
 /// The first of the clocks, or one of no readings.
 fn first_clock(alloc: Global, clocks: &mut Vec<MemoryClock>) -> MemoryClock
     requires { All IsNewClock clocks.old.items }
+    ensures next { IsNextClock clocks.old.items result }
     ensures new { IsNewClock result }
-    ensures others { All IsNewClock clocks.new.items }
+    ensures later { clocks.new.items ≡ drop 1 clocks.old.items }
+    ensures later_new { All IsNewClock clocks.new.items }
 {
     if clocks.is_empty() {
         MemoryClock::of(Vec::new(alloc))
@@ -87,6 +96,12 @@ fn first_clock(alloc: Global, clocks: &mut Vec<MemoryClock>) -> MemoryClock
 }
 
 impl Host for MemoryHost {
+    ghost use Rattle.std.specs.Prelude.{◌≤◌, ◌↔◌, Contains, IsErrOf, IfOk, OnOk, OnErr};
+    ghost use Rattle.edge_traits.specs.Told.{gained, Rose};
+    ghost use Rattle.edge_traits.specs.Binds.{bound};
+    ghost use Rattle.edge_traits.specs.Counts.{Counts, next_count};
+    ghost use Rattle.edge_traits.specs.MemoryHosts.{failing_binds, binds_made};
+
     type P = MemoryPort;
 
     type C = MemoryClock;
@@ -99,28 +114,70 @@ impl Host for MemoryHost {
 
     ghost salt = { λ h. h.salt };
 
-    fn bind(&mut self, at: &Addr) -> Result<MemoryPort, HostFault> {
-        let number = self.calls;
-        self.calls = self.calls.saturating_add(1);
-        if self.failing.contains(&number) {
+    fn bind(&mut self, at: &Addr) -> Result<MemoryPort, HostFault>
+        ensures port { IfOk result (λ p. IsNextPort self.old.ports.items at.now p) }
+        ensures port_new { IfOk result (λ p. IsNewPort p) }
+        ensures ports { OnOk result (self.new.ports.items ≡ drop 1 self.old.ports.items) }
+        ensures ports_kept { OnErr result (self.new.ports.items ≡ self.old.ports.items) }
+        ensures fails { IsErrOf result HostFault.Failed
+            ↔ Contains (failing_binds self.old) (binds_made self.old) }
+
+        // What is told and counted.
+        ensures told { ⟦<MemoryHost as Host>⟧.binds self.new
+            ≡ gained (⟦<MemoryHost as Host>⟧.binds self.old) (bound result at.now) }
+        ensures faults { Counts (IsErrOf result HostFault.Failed)
+            (⟦<MemoryHost as Host>⟧.faults self.old) (⟦<MemoryHost as Host>⟧.faults self.new) }
+        ensures failed { IsErrOf result HostFault.Failed
+            → Rose 1 (⟦<MemoryHost as Host>⟧.faults self.old) (⟦<MemoryHost as Host>⟧.faults self.new) }
+        ensures faults_kept { ⟦<MemoryHost as Host>⟧.faults self.old ≤ ⟦<MemoryHost as Host>⟧.faults self.new }
+        ensures made { binds_made self.new ≡ next_count (binds_made self.old) }
+
+        // The host stays the one that it is.
+        ensures failing_kept { failing_binds self.new ≡ failing_binds self.old }
+        ensures clocks_kept { self.new.clocks.items ≡ self.old.clocks.items }
+        ensures origin_kept { ⟦<MemoryHost as Host>⟧.origin self.new
+            ≡ ⟦<MemoryHost as Host>⟧.origin self.old }
+        ensures salt_kept { ⟦<MemoryHost as Host>⟧.salt self.new
+            ≡ ⟦<MemoryHost as Host>⟧.salt self.old }
+    {
+        if self.calls.next_fails() {
             self.faults = self.faults.saturating_add(1);
             return Err(HostFault::Failed);
         }
         if self.bound.push(*at).is_err() {
             return Err(HostFault::NoMemory);
         }
-        Ok(first_port(self.alloc, &mut self.ports).bound_at(*at))
+        Ok(first_port(self.alloc, &mut self.ports, *at))
     }
 
-    fn clock(&mut self) -> MemoryClock {
+    fn clock(&mut self) -> MemoryClock
+        ensures clock { IsNextClock self.old.clocks.items result }
+        ensures clock_new { IsNewClock result }
+        ensures clocks { self.new.clocks.items ≡ drop 1 self.old.clocks.items }
+
+        // The rest stays.
+        ensures ports_kept { self.new.ports.items ≡ self.old.ports.items }
+        ensures failing_kept { failing_binds self.new ≡ failing_binds self.old }
+        ensures made_kept { binds_made self.new ≡ binds_made self.old }
+        ensures binds_kept { ⟦<MemoryHost as Host>⟧.binds self.new ≡ ⟦<MemoryHost as Host>⟧.binds self.old }
+        ensures faults_same { ⟦<MemoryHost as Host>⟧.faults self.new ≡ ⟦<MemoryHost as Host>⟧.faults self.old }
+        ensures origin_kept { ⟦<MemoryHost as Host>⟧.origin self.new ≡ ⟦<MemoryHost as Host>⟧.origin self.old }
+        ensures salt_kept { ⟦<MemoryHost as Host>⟧.salt self.new ≡ ⟦<MemoryHost as Host>⟧.salt self.old }
+    {
         first_clock(self.alloc, &mut self.clocks)
     }
 
-    fn origin(&mut self) -> Ntp64 {
+    fn origin(&mut self) -> Ntp64
+        ensures origin { result ≡ ⟦<MemoryHost as Host>⟧.origin self.old }
+        ensures kept { self.new ≡ self.old }
+    {
         self.origin
     }
 
-    fn salt(&mut self) -> Salt {
+    fn salt(&mut self) -> Salt
+        ensures salt { result ≡ ⟦<MemoryHost as Host>⟧.salt self.old }
+        ensures kept { self.new ≡ self.old }
+    {
         self.salt
     }
 }

@@ -1,5 +1,10 @@
-ghost use Rattle.std.specs.Prelude.{◌≡◌, [], Some};
+ghost use Rattle.std.specs.Prelude.{◌≡◌, ◌≤◌, ◌↔◌, [], Some, length, Contains, IsErrOf, IfOk};
+ghost use Rattle.edge_traits.specs.Told.{gained, Rose};
+ghost use Rattle.edge_traits.specs.Written.{written};
+ghost use Rattle.edge_traits.specs.Counts.{Counts, next_count};
+ghost use Rattle.edge_traits.specs.Memory.{failing_writes, writes_made};
 
+use crate::calls::Calls;
 use crate::sink::{Sink, SinkFault};
 use std::alloc::Global;
 
@@ -7,8 +12,7 @@ use std::alloc::Global;
 #[derive(Drop)]
 pub struct MemorySink {
     contents: Vec<u8>,
-    failing: Vec<u64>,
-    writes: u64,
+    writes: Calls,
     faults: u64,
 }
 
@@ -17,11 +21,12 @@ impl MemorySink {
     pub fn of(alloc: Global, failing: Vec<u64>) -> MemorySink
         ensures empty { ⟦<MemorySink as Sink>⟧.contents result ≡ Some [] }
         ensures faults { ⟦<MemorySink as Sink>⟧.faults result ≡ 0 }
+        ensures failing { failing_writes result ≡ failing.items }
+        ensures made { writes_made result ≡ 0 }
     {
         MemorySink {
             contents: Vec::new(alloc),
-            failing,
-            writes: 0,
+            writes: Calls::of(failing),
             faults: 0,
         }
     }
@@ -39,10 +44,26 @@ impl Sink for MemorySink {
 
     ghost faults = { λ s. s.faults };
 
-    fn write(&mut self, from: &[u8]) -> Result<usize, SinkFault> {
-        let number = self.writes;
-        self.writes = self.writes.saturating_add(1);
-        if self.failing.contains(&number) {
+    // It takes all of the octets at once.
+    fn write(&mut self, from: &[u8]) -> Result<usize, SinkFault>
+        ensures whole { IfOk result (λ n. n ≡ length from.now) }
+        ensures fails { IsErrOf result SinkFault.Failed
+            ↔ Contains (failing_writes self.old) (writes_made self.old) }
+
+        // What is told and counted.
+        ensures told { ⟦<MemorySink as Sink>⟧.contents self.new
+            ≡ gained (⟦<MemorySink as Sink>⟧.contents self.old) (written result from.now) }
+        ensures faults { Counts (IsErrOf result SinkFault.Failed)
+            (⟦<MemorySink as Sink>⟧.faults self.old) (⟦<MemorySink as Sink>⟧.faults self.new) }
+        ensures failed { IsErrOf result SinkFault.Failed
+            → Rose 1 (⟦<MemorySink as Sink>⟧.faults self.old)
+            (⟦<MemorySink as Sink>⟧.faults self.new) }
+        ensures faults_kept { ⟦<MemorySink as Sink>⟧.faults self.old
+            ≤ ⟦<MemorySink as Sink>⟧.faults self.new }
+        ensures made { writes_made self.new ≡ next_count (writes_made self.old) }
+        ensures failing_kept { failing_writes self.new ≡ failing_writes self.old }
+    {
+        if self.writes.next_fails() {
             self.faults = self.faults.saturating_add(1);
             return Err(SinkFault::Failed);
         }

@@ -22,6 +22,7 @@ impl Model for Octets {
 }
 
 impl Octets {
+    /// No octets.
     pub fn new() -> Octets
         ensures { result ≡ [] }
     {
@@ -31,6 +32,7 @@ impl Octets {
         }
     }
 
+    /// How many octets there are.
     pub fn len(&self) -> usize
         ensures len { result ≡ length self.now }
         ensures at_most { length self.now ≤ MAX_OCTETS }
@@ -38,6 +40,7 @@ impl Octets {
         self.used
     }
 
+    /// The octets, first to last.
     pub fn as_slice(&self) -> &[u8]
         ensures same { result.now ≡ self.now }
         ensures at_most { length self.now ≤ MAX_OCTETS }
@@ -45,6 +48,7 @@ impl Octets {
         &self.kept[..self.used]
     }
 
+    /// Leaves no octets.
     pub fn clear(&mut self)
         ensures { self.new ≡ [] }
     {

@@ -18,7 +18,9 @@ pub enum Taken {
 /// Why a take or a give failed.
 #[derive(Clone, Copy, Debug, PartialEq, Eq)]
 pub enum PortFault {
+    /// The port could not do it; its count of faults rose.
     Failed,
+    /// Memory was wanting.
     NoMemory,
 }
 

@@ -5,7 +5,9 @@ ghost use Rattle.edge_traits.specs.Written.{written};
 /// Why a write failed.
 #[derive(Clone, Copy, Debug, PartialEq, Eq)]
 pub enum SinkFault {
+    /// The sink could not do it; its count of faults rose.
     Failed,
+    /// Memory was wanting.
     NoMemory,
 }
 
