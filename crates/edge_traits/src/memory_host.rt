@@ -97,7 +97,7 @@ fn first_clock(alloc: Global, clocks: &mut Vec<MemoryClock>) -> MemoryClock
 
 impl Host for MemoryHost {
     ghost use Rattle.std.specs.Prelude.{◌≤◌, ◌↔◌, Contains, IsErrOf, IfOk, OnOk, OnErr};
-    ghost use Rattle.edge_traits.specs.Told.{gained, Rose};
+    ghost use Rattle.edge_traits.specs.Told.{gained};
     ghost use Rattle.edge_traits.specs.Binds.{bound};
     ghost use Rattle.edge_traits.specs.Counts.{Counts, next_count};
     ghost use Rattle.edge_traits.specs.MemoryHosts.{failing_binds, binds_made};
@@ -127,9 +127,6 @@ impl Host for MemoryHost {
             ≡ gained (⟦<MemoryHost as Host>⟧.binds self.old) (bound result at.now) }
         ensures faults { Counts (IsErrOf result HostFault.Failed)
             (⟦<MemoryHost as Host>⟧.faults self.old) (⟦<MemoryHost as Host>⟧.faults self.new) }
-        ensures failed { IsErrOf result HostFault.Failed
-            → Rose 1 (⟦<MemoryHost as Host>⟧.faults self.old) (⟦<MemoryHost as Host>⟧.faults self.new) }
-        ensures faults_kept { ⟦<MemoryHost as Host>⟧.faults self.old ≤ ⟦<MemoryHost as Host>⟧.faults self.new }
         ensures made { binds_made self.new ≡ next_count (binds_made self.old) }
 
         // The host stays the one that it is.
@@ -159,10 +156,14 @@ impl Host for MemoryHost {
         ensures ports_kept { self.new.ports.items ≡ self.old.ports.items }
         ensures failing_kept { failing_binds self.new ≡ failing_binds self.old }
         ensures made_kept { binds_made self.new ≡ binds_made self.old }
-        ensures binds_kept { ⟦<MemoryHost as Host>⟧.binds self.new ≡ ⟦<MemoryHost as Host>⟧.binds self.old }
-        ensures faults_same { ⟦<MemoryHost as Host>⟧.faults self.new ≡ ⟦<MemoryHost as Host>⟧.faults self.old }
-        ensures origin_kept { ⟦<MemoryHost as Host>⟧.origin self.new ≡ ⟦<MemoryHost as Host>⟧.origin self.old }
-        ensures salt_kept { ⟦<MemoryHost as Host>⟧.salt self.new ≡ ⟦<MemoryHost as Host>⟧.salt self.old }
+        ensures binds_kept { ⟦<MemoryHost as Host>⟧.binds self.new
+            ≡ ⟦<MemoryHost as Host>⟧.binds self.old }
+        ensures faults_same { ⟦<MemoryHost as Host>⟧.faults self.new
+            ≡ ⟦<MemoryHost as Host>⟧.faults self.old }
+        ensures origin_kept { ⟦<MemoryHost as Host>⟧.origin self.new
+            ≡ ⟦<MemoryHost as Host>⟧.origin self.old }
+        ensures salt_kept { ⟦<MemoryHost as Host>⟧.salt self.new
+            ≡ ⟦<MemoryHost as Host>⟧.salt self.old }
     {
         first_clock(self.alloc, &mut self.clocks)
     }
@@ -179,5 +180,45 @@ impl Host for MemoryHost {
         ensures kept { self.new ≡ self.old }
     {
         self.salt
+    }
+}
+
+#[cfg(test)]
+mod tests {
+    use super::*;
+    use crate::clock::Clock;
+    use crate::memory_port::Incoming;
+    use crate::octets::Octets;
+    use crate::port::{Port, Taken};
+    use net_addr::Ip;
+    use std::test::Fail;
+
+    const SERVER: Addr = Addr {
+        ip: Ip::V4([192, 0, 2, 1]),
+        port: 123,
+    };
+
+    #[test]
+    fn binds_follow_the_list_and_at_its_end_ports_are_empty(rt: HostRuntime) -> Result<(), Fail> {
+        let alloc = rt.alloc();
+        let quiet = MemoryPort::of(alloc, vec![in alloc; Incoming::Quiet]?, Vec::new(alloc));
+        let clock = MemoryClock::of(vec![in alloc; 7]?);
+        let mut host = MemoryHost::of(
+            alloc,
+            vec![in alloc; quiet]?,
+            vec![in alloc; clock]?,
+            Ntp64(0x83aa_7e80 << 32),
+            Salt([3; 16]),
+            vec![in alloc; 0]?,
+        );
+        let mut into = Octets::new();
+        assert!(rt; matches!(host.bind(&SERVER), Err(HostFault::Failed)));
+        assert_eq!(rt; host.bind(&SERVER)?.take(&mut into)?, Taken::Quiet);
+        assert_eq!(rt; host.bind(&SERVER)?.take(&mut into)?, Taken::Closed);
+        assert_eq!(rt; host.clock().now(), 7);
+        assert_eq!(rt; host.clock().now(), 0);
+        assert_eq!(rt; host.origin(), Ntp64(0x83aa_7e80 << 32));
+        assert_eq!(rt; host.salt().0, [3; 16]);
+        Ok(())
     }
 }

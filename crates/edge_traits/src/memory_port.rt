@@ -1,5 +1,5 @@
 ghost use Rattle.std.specs.Prelude.{◌≡◌, ◌≤◌, ◌↔◌, ◌⊎◌, Some, [], ◌∷◌, nat_le, length, Contains, IsTrue, IsErrOf, OnOk, OnErr};
-ghost use Rattle.edge_traits.specs.Told.{gained, Rose};
+ghost use Rattle.edge_traits.specs.Told.{gained};
 ghost use Rattle.edge_traits.specs.Trace.{taken_events, given_events};
 ghost use Rattle.edge_traits.specs.Counts.{Counts, next_count};
 ghost use Rattle.edge_traits.specs.Memory.{IsNewPort, coming, failing_gives, gives_made, taken_first, octets_first, coming_after};
@@ -95,7 +95,8 @@ impl Port for MemoryPort {
 
     fn take(&mut self, into: &mut Octets) -> Result<Taken, PortFault>
         // The first of what is to come, or want of memory.
-        ensures found { (result ≡ taken_first (coming self.old)) ⊎ (result ≡ Err PortFault.NoMemory) }
+        ensures found { (result ≡ taken_first (coming self.old))
+            ⊎ (result ≡ Err PortFault.NoMemory) }
         ensures octets { OnOk result (into.new ≡ octets_first (coming self.old) into.old) }
         ensures err { OnErr result (into.new ≡ into.old) }
         ensures coming { coming self.new ≡ coming_after result (coming self.old) }
@@ -112,13 +113,8 @@ impl Port for MemoryPort {
             (⟦<MemoryPort as Port>⟧.faults self.old) (⟦<MemoryPort as Port>⟧.faults self.new) }
         ensures quiets { Counts (result ≡ Ok Taken.Quiet)
             (⟦<MemoryPort as Port>⟧.quiets self.old) (⟦<MemoryPort as Port>⟧.quiets self.new) }
-        ensures failed { IsErrOf result PortFault.Failed
-            → Rose 1 (⟦<MemoryPort as Port>⟧.faults self.old) (⟦<MemoryPort as Port>⟧.faults self.new) }
-        ensures faults_kept { ⟦<MemoryPort as Port>⟧.faults self.old ≤ ⟦<MemoryPort as Port>⟧.faults self.new }
-        ensures quiet { result ≡ Ok Taken.Quiet
-            → Rose 1 (⟦<MemoryPort as Port>⟧.quiets self.old) (⟦<MemoryPort as Port>⟧.quiets self.new) }
-        ensures quiets_kept { ⟦<MemoryPort as Port>⟧.quiets self.old ≤ ⟦<MemoryPort as Port>⟧.quiets self.new }
-        ensures closed { result ≡ Ok Taken.Closed → IsTrue (⟦<MemoryPort as Port>⟧.is_closed self.new) }
+        ensures closed { result ≡ Ok Taken.Closed
+            → IsTrue (⟦<MemoryPort as Port>⟧.is_closed self.new) }
         ensures closed_kept { result ≡ Ok Taken.Closed → self.new ≡ self.old }
 
         // The port stays the one that it is.
@@ -169,9 +165,6 @@ impl Port for MemoryPort {
             (given_events result to.now octets.now) }
         ensures faults { Counts (IsErrOf result PortFault.Failed)
             (⟦<MemoryPort as Port>⟧.faults self.old) (⟦<MemoryPort as Port>⟧.faults self.new) }
-        ensures failed { IsErrOf result PortFault.Failed
-            → Rose 1 (⟦<MemoryPort as Port>⟧.faults self.old) (⟦<MemoryPort as Port>⟧.faults self.new) }
-        ensures faults_kept { ⟦<MemoryPort as Port>⟧.faults self.old ≤ ⟦<MemoryPort as Port>⟧.faults self.new }
 
         // The port stays the one that it is.
         ensures quiets_same { ⟦<MemoryPort as Port>⟧.quiets self.new
@@ -189,6 +182,64 @@ impl Port for MemoryPort {
         copy.put(octets);
         if self.events.push(Event::Sent(*to, copy)).is_err() {
             return Err(PortFault::NoMemory);
+        }
+        Ok(())
+    }
+}
+
+#[cfg(test)]
+mod tests {
+    use super::*;
+    use std::test::Fail;
+
+    const CLIENT: Addr = Addr {
+        ip: Ip::V4([192, 0, 2, 7]),
+        port: 40_000,
+    };
+
+    #[test]
+    fn takes_follow_the_list_and_at_its_end_the_port_is_closed(
+        rt: HostRuntime,
+    ) -> Result<(), Fail> {
+        let mut request = Octets::new();
+        request.put(b"\x23\x00\x06\xe9");
+        let datagram = Incoming::Datagram(CLIENT, request);
+        let incoming = vec![in rt.alloc(); datagram, Incoming::Quiet, Incoming::Fail]?;
+        let mut port = MemoryPort::of(rt.alloc(), incoming, Vec::new(rt.alloc()));
+
+        let mut into = Octets::new();
+        for (want, what) in [
+            (Ok(Taken::Datagram(CLIENT)), "the datagram"),
+            (Ok(Taken::Quiet), "the silence"),
+            (Err(PortFault::Failed), "the fault"),
+            (Ok(Taken::Closed), "the end"),
+            (Ok(Taken::Closed), "the end again"),
+        ] {
+            assert_eq!(rt; port.take(&mut into), want, "{what}");
+            assert_eq!(rt; into.as_slice(), b"\x23\x00\x06\xe9".as_slice(), "{what}");
+        }
+        assert!(rt; matches!(port.events(), [Event::Took(_, _), Event::Silence]));
+        Ok(())
+    }
+
+    #[test]
+    fn the_give_that_is_numbered_fails(rt: HostRuntime) -> Result<(), Fail> {
+        let failing = vec![in rt.alloc(); 1]?;
+        let mut port = MemoryPort::of(rt.alloc(), Vec::new(rt.alloc()), failing);
+        for (octets, want) in [
+            (b"first", Ok(())),
+            (b"wrong", Err(PortFault::Failed)),
+            (b"third", Ok(())),
+        ] {
+            assert_eq!(rt; port.give(&CLIENT, octets), want);
+        }
+        match port.events() {
+            [Event::Sent(_, first), Event::Sent(to, third)] => {
+                assert_eq!(rt; first.as_slice(), b"first".as_slice());
+                assert_eq!(rt; third.as_slice(), b"third".as_slice());
+                assert_eq!(rt; *to, CLIENT);
+            }
+            _ => assert!(rt; false, "two datagrams were given"),
         }
         Ok(())
     }

@@ -1,5 +1,5 @@
 ghost use Rattle.std.specs.Prelude.{◌≡◌, ◌≤◌, ◌↔◌, [], Some, length, Contains, IsErrOf, IfOk};
-ghost use Rattle.edge_traits.specs.Told.{gained, Rose};
+ghost use Rattle.edge_traits.specs.Told.{gained};
 ghost use Rattle.edge_traits.specs.Written.{written};
 ghost use Rattle.edge_traits.specs.Counts.{Counts, next_count};
 ghost use Rattle.edge_traits.specs.Memory.{failing_writes, writes_made};
@@ -55,11 +55,6 @@ impl Sink for MemorySink {
             ≡ gained (⟦<MemorySink as Sink>⟧.contents self.old) (written result from.now) }
         ensures faults { Counts (IsErrOf result SinkFault.Failed)
             (⟦<MemorySink as Sink>⟧.faults self.old) (⟦<MemorySink as Sink>⟧.faults self.new) }
-        ensures failed { IsErrOf result SinkFault.Failed
-            → Rose 1 (⟦<MemorySink as Sink>⟧.faults self.old)
-            (⟦<MemorySink as Sink>⟧.faults self.new) }
-        ensures faults_kept { ⟦<MemorySink as Sink>⟧.faults self.old
-            ≤ ⟦<MemorySink as Sink>⟧.faults self.new }
         ensures made { writes_made self.new ≡ next_count (writes_made self.old) }
         ensures failing_kept { failing_writes self.new ≡ failing_writes self.old }
     {
@@ -71,5 +66,21 @@ impl Sink for MemorySink {
             return Err(SinkFault::NoMemory);
         }
         Ok(from.len())
+    }
+}
+
+#[cfg(test)]
+mod tests {
+    use super::*;
+    use std::test::Fail;
+
+    #[test]
+    fn the_write_that_is_numbered_fails(rt: HostRuntime) -> Result<(), Fail> {
+        let mut sink = MemorySink::of(rt.alloc(), vec![in rt.alloc(); 1]?);
+        assert_eq!(rt; sink.write(b"answered ")?, 9);
+        assert_eq!(rt; sink.write(b"lost"), Err(SinkFault::Failed));
+        assert_eq!(rt; sink.write(b"1\n")?, 2);
+        assert_eq!(rt; sink.contents(), b"answered 1\n".as_slice());
+        Ok(())
     }
 }
