@@ -1,0 +1,97 @@
+-- Worked octets: a request for the variable `stratum` and its answer (RFC 9327, sections 2, 3.4 and 4).
+use Rattle.std.proofs.Common.{◌≡◌, ℕ, true, false, List, [], ◌∷◌, ◌++◌, take, drop, Some, None, refl}
+use Rattle.mode6_frame.specs.declared.message.FrameFault.TheVariants.{Short, BadVersion, BadMode, BadCount}
+use Rattle.mode6_frame.specs.declared.message.Head.{Head}
+use Rattle.mode6_frame.specs.Frames.{FrameParts, spelled_frame, head_of, error_parts, frame_fault_of}
+
+-- operation 2 of version 2, for `stratum`
+abbrev request : FrameParts
+request = record {
+  leap = 0;
+  version = 2;
+  response = false;
+  error = false;
+  more = false;
+  opcode = 2;
+  sequence = 1;
+  status = 0;
+  assoc = 0;
+  offset = 0;
+  body = 0x73 ∷ 0x74 ∷ 0x72 ∷ 0x61 ∷ 0x74 ∷ 0x75 ∷ 0x6d ∷ [];
+}
+
+abbrev request_octets : List ℕ
+request_octets =
+    0x16 ∷ 0x02 ∷ 0x00 ∷ 0x01 ∷ 0x00 ∷ 0x00 ∷ 0x00 ∷ 0x00 ∷ 0x00 ∷ 0x00 ∷ 0x00 ∷ 0x07 ∷
+    0x73 ∷ 0x74 ∷ 0x72 ∷ 0x61 ∷ 0x74 ∷ 0x75 ∷ 0x6d ∷ 0x00 ∷ []
+
+-- status c011: clock not synchronized, one event, its code 1; the body is `stratum=16`, CR and LF
+abbrev answer : FrameParts
+answer = record {
+  leap = 0;
+  version = 2;
+  response = true;
+  error = false;
+  more = false;
+  opcode = 2;
+  sequence = 1;
+  status = 0xc011;
+  assoc = 0;
+  offset = 0;
+  body = 0x73 ∷ 0x74 ∷ 0x72 ∷ 0x61 ∷ 0x74 ∷ 0x75 ∷ 0x6d ∷ 0x3d ∷ 0x31 ∷ 0x36 ∷ 0x0d ∷ 0x0a ∷ [];
+}
+
+abbrev answer_octets : List ℕ
+answer_octets =
+    0x16 ∷ 0x82 ∷ 0x00 ∷ 0x01 ∷ 0xc0 ∷ 0x11 ∷ 0x00 ∷ 0x00 ∷ 0x00 ∷ 0x00 ∷ 0x00 ∷ 0x0c ∷
+    0x73 ∷ 0x74 ∷ 0x72 ∷ 0x61 ∷ 0x74 ∷ 0x75 ∷ 0x6d ∷ 0x3d ∷ 0x31 ∷ 0x36 ∷ 0x0d ∷ 0x0a ∷ []
+
+-- an answer about the association, to a request of this operation
+abbrev head : ℕ → ℕ → Head
+head opcode assoc = record {
+  version = 2;
+  opcode = opcode;
+  sequence = 1;
+  status = 0xc011;
+  assoc = assoc;
+}
+
+request-spelled : spelled_frame request ≡ request_octets
+unfolding head_of
+request-spelled = refl
+
+answer-spelled : spelled_frame answer ≡ answer_octets
+unfolding head_of
+answer-spelled = refl
+
+-- code 5, an unknown name
+unknown_name-spelled : spelled_frame (error_parts (head 2 0) 5) ≡ 0x16 ∷ 0xc2 ∷ 0 ∷ 1 ∷ 5 ∷ 0 ∷ 0 ∷ 0 ∷ 0 ∷ 0 ∷ 0 ∷ 0 ∷ []
+unfolding head_of
+unknown_name-spelled = refl
+
+-- code 4, an unknown association, and its number
+unknown_association-spelled : spelled_frame (error_parts (head 2 9) 4) ≡ 0x16 ∷ 0xc2 ∷ 0 ∷ 1 ∷ 4 ∷ 0 ∷ 0 ∷ 9 ∷ 0 ∷ 0 ∷ 0 ∷ 0 ∷ []
+unfolding head_of
+unknown_association-spelled = refl
+
+request-fault : frame_fault_of request_octets ≡ None
+request-fault = refl
+
+-- what follows the body is not judged, nor is the padding asked for
+unpadded-fault : frame_fault_of (take 19 request_octets) ≡ None
+unpadded-fault = refl
+
+short-fault : frame_fault_of (take 11 (0 ∷ request_octets)) ≡ Some Short
+short-fault = refl
+
+-- version 5 and mode 7: the version is judged first
+version-fault : frame_fault_of (0x2f ∷ drop 1 request_octets) ≡ Some BadVersion
+version-fault = refl
+
+-- version 4 and mode 3, a client's packet
+mode-fault : frame_fault_of (0x23 ∷ drop 1 request_octets) ≡ Some BadMode
+mode-fault = refl
+
+-- nine octets are counted where eight follow
+count-fault : frame_fault_of (take 11 request_octets ++ 9 ∷ drop 12 request_octets) ≡ Some BadCount
+count-fault = refl

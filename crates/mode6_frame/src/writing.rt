@@ -1,0 +1,190 @@
+ghost use Rattle.std.specs.Prelude.{◌≡◌, ◌+◌, ◌<◌, ◌≤◌, ◌^◌, length, List, ℕ, ◌++◌};
+ghost use Rattle.byteorder.specs.Endian.{big_bytes};
+ghost use Rattle.mode6_frame.specs.Frames.{IsFrame, IsFrameVersion, FitsFrame, parts_of, error_parts, spelled_frame, head_of, padding_of, first_octet_of, second_octet_of};
+
+use crate::message::{Frame, HEAD_LEN, Head, MAX_BODY};
+use edge_traits::Octets;
+
+/// The octets of the control message, padded with zeros to a multiple of four (RFC 9327, section 2).
+///
+/// `rest` is not written.
+pub fn write(frame: &Frame<'_>) -> Octets
+    requires leap { frame.now.leap ≤ 3 }
+    requires version { frame.now.version ≤ 7 }
+    requires opcode { frame.now.opcode ≤ 31 }
+    requires body { length frame.now.body.now ≤ MAX_BODY }
+    ensures spelled { result ≡ spelled_frame (parts_of frame.now) }
+    ensures read_back { IsFrameVersion frame.now.version
+        → (rest : List ℕ) → IsFrame (result ++ rest) (parts_of frame.now) }
+{
+    let mut octets = head_octets(frame);
+    octets.put(frame.body);
+    octets.put(padding(frame.body.len()));
+    octets
+}
+
+/// The error response to a request, with this code (RFC 9327, section 3.4).
+pub fn error_gram(head: &Head, code: u8) -> Octets
+    requires version { head.now.version ≤ 7 }
+    requires opcode { head.now.opcode ≤ 31 }
+    ensures spelled { result ≡ spelled_frame (error_parts head.now code) }
+    ensures read_back { IsFrameVersion head.now.version
+        → (rest : List ℕ) → IsFrame (result ++ rest) (error_parts head.now code) }
+{
+    write(&Frame {
+        leap: 0,
+        version: head.version,
+        response: true,
+        error: true,
+        more: false,
+        opcode: head.opcode,
+        sequence: head.sequence,
+        status: u16::from(code) << 8,
+        assoc: head.assoc,
+        offset: 0,
+        body: &[],
+        rest: &[],
+    })
+}
+
+fn head_octets(frame: &Frame<'_>) -> Octets
+    requires leap { frame.now.leap ≤ 3 }
+    requires version { frame.now.version ≤ 7 }
+    requires opcode { frame.now.opcode ≤ 31 }
+    requires body { length frame.now.body.now ≤ MAX_BODY }
+    ensures spelled { result ≡ head_of (parts_of frame.now) }
+    ensures length { length result ≡ HEAD_LEN }
+    ensures fits { FitsFrame (parts_of frame.now) }
+{
+    let mut octets = Octets::new();
+    octets.push(first_octet(frame));
+    octets.push(second_octet(frame));
+    put_word(&mut octets, frame.sequence);
+    put_word(&mut octets, frame.status);
+    put_word(&mut octets, frame.assoc);
+    put_word(&mut octets, frame.offset);
+    put_word(&mut octets, frame.body.len() as u16);
+    octets
+}
+
+fn first_octet(frame: &Frame<'_>) -> u8
+    requires leap { frame.now.leap ≤ 3 }
+    requires version { frame.now.version ≤ 7 }
+    ensures { result ≡ first_octet_of (parts_of frame.now) }
+{
+    (frame.leap << 6) | (frame.version << 3) | 6
+}
+
+fn second_octet(frame: &Frame<'_>) -> u8
+    requires { frame.now.opcode ≤ 31 }
+    ensures { result ≡ second_octet_of (parts_of frame.now) }
+{
+    (u8::from(frame.response) << 7)
+        | (u8::from(frame.error) << 6)
+        | (u8::from(frame.more) << 5)
+        | frame.opcode
+}
+
+fn put_word(octets: &mut Octets, word: u16)
+    requires { length octets.old + 2 ≤ 2048 }
+    ensures written { octets.new ≡ octets.old ++ big_bytes 2 word }
+    ensures length { length octets.new ≡ length octets.old + 2 }
+    ensures fits { word < 2 ^ 16 }
+{
+    octets.put(&word.to_be_bytes());
+}
+
+/// The fewest zeros that fill so many octets up to a multiple of four.
+fn padding(len: usize) -> &'static [u8]
+    requires { len ≤ MAX_BODY }
+    ensures padding { result.now ≡ padding_of len }
+    ensures short { length result.now ≤ 3 }
+{
+    match len % 4 {
+        1 => &[0; 3],
+        2 => &[0; 2],
+        3 => &[0; 1],
+        _ => &[],
+    }
+}
+
+#[cfg(test)]
+mod tests {
+    use super::*;
+
+    const REQUEST: Frame<'static> = Frame {
+        leap: 0,
+        version: 2,
+        response: false,
+        error: false,
+        more: false,
+        opcode: 2,
+        sequence: 1,
+        status: 0,
+        assoc: 0,
+        offset: 0,
+        body: b"stratum",
+        rest: b"not written",
+    };
+
+    #[test]
+    fn a_request_is_padded_with_zeros(rt: HostRuntime) {
+        let octets = write(&REQUEST);
+        let wanted = b"\x16\x02\x00\x01\x00\x00\x00\x00\x00\x00\x00\x07stratum\x00".as_slice();
+        assert!(rt; octets.as_slice() == wanted);
+    }
+
+    #[test]
+    fn an_answer_of_twelve_octets_needs_no_padding(rt: HostRuntime) {
+        let answer = Frame {
+            response: true,
+            status: 0xc011,
+            body: b"stratum=16\r\n",
+            ..REQUEST
+        };
+        let octets = write(&answer);
+        let wanted = b"\x16\x82\x00\x01\xc0\x11\x00\x00\x00\x00\x00\x0cstratum=16\r\n".as_slice();
+        assert!(rt; octets.as_slice() == wanted);
+    }
+
+    #[test]
+    fn errors_keep_operation_sequence_and_association(rt: HostRuntime) {
+        let cases = [
+            (
+                "unknown name",
+                2,
+                0,
+                5,
+                *b"\x16\xc2\x00\x01\x05\x00\x00\x00\x00\x00\x00\x00",
+            ),
+            (
+                "unknown association",
+                2,
+                9,
+                4,
+                *b"\x16\xc2\x00\x01\x04\x00\x00\x09\x00\x00\x00\x00",
+            ),
+            (
+                "operation 3",
+                3,
+                0,
+                3,
+                *b"\x16\xc3\x00\x01\x03\x00\x00\x00\x00\x00\x00\x00",
+            ),
+        ];
+        for (what, opcode, assoc, code, wanted) in cases {
+            let head = Head {
+                version: 2,
+                opcode,
+                sequence: 1,
+                status: 0xc011,
+                assoc,
+            };
+            assert!(rt; head.opcode <= 31);
+            assert!(rt;
+                error_gram(&head, code).as_slice() == wanted.as_slice(),
+                "{what}"
+            );
+        }
+    }
+}
