@@ -1,2 +1,5 @@
 pub mod FrameLemmas
+pub mod ItemLemmas
+pub mod SlotLemmas
+pub mod ItemTextLemmas
 mod StandardFacts

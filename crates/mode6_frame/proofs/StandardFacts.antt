@@ -1,8 +1,9 @@
--- Worked octets: a request for the variable `stratum` and its answer (RFC 9327, sections 2, 3.4 and 4).
-use Rattle.std.proofs.Common.{◌≡◌, ℕ, true, false, List, [], ◌∷◌, ◌++◌, take, drop, Some, None, refl}
+-- Worked octets: a request for the variable `stratum`, its answer, errors and names (RFC 9327, sections 2, 3.4 and 4).
+use Rattle.std.proofs.Common.{◌≡◌, ℕ, true, false, List, [], ◌∷◌, ◌++◌, take, drop, Some, None, refl, lit<}
 use Rattle.mode6_frame.specs.declared.message.FrameFault.TheVariants.{Short, BadVersion, BadMode, BadCount}
 use Rattle.mode6_frame.specs.declared.message.Head.{Head}
 use Rattle.mode6_frame.specs.Frames.{FrameParts, spelled_frame, head_of, error_parts, frame_fault_of}
+use Rattle.mode6_frame.specs.Items.{IsItemText, Blank, Named}
 
 -- operation 2 of version 2, for `stratum`
 abbrev request : FrameParts
@@ -95,3 +96,14 @@ mode-fault = refl
 -- nine octets are counted where eight follow
 count-fault : frame_fault_of (take 11 request_octets ++ 9 ∷ drop 12 request_octets) ≡ Some BadCount
 count-fault = refl
+
+-- ` re,,st` and a new line: two items, for a slot without a name has none
+names : IsItemText (32 ∷ 0x72 ∷ 0x65 ∷ 44 ∷ 44 ∷ 0x73 ∷ 0x74 ∷ 13 ∷ 10 ∷ []) (record { name = 0x72 ∷ 0x65 ∷ []; value = None } ∷ record { name = 0x73 ∷ 0x74 ∷ []; value = None } ∷ [])
+names = record {
+  closed = Named (32 ∷ []) (0x72 ∷ 0x65 ∷ []) [] ∷ Blank [] ∷ [];
+  last = Named [] (0x73 ∷ 0x74 ∷ []) (13 ∷ 10 ∷ []);
+  closed_slots = (((refl, tt), lit< tt, (refl, (refl, tt)), tt), (tt, tt));
+  last_slot = (tt, lit< tt, (refl, (refl, tt)), (refl, (refl, tt)));
+  spelled = refl;
+  named = refl;
+}

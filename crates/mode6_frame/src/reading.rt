@@ -1,5 +1,4 @@
-ghost use Rattle.std.specs.Prelude.{◌≡◌, ◌+◌, ◌/◌, ◌%◌, ◌^◌, ◌<◌, ◌≤◌, ◌==◌, length, drop, None, Some, IfOk, IsOkAnd, OnOk, MatchResult};
-ghost use Rattle.byteorder.specs.Endian.{big_number};
+ghost use Rattle.std.specs.Prelude.{◌≡◌, ◌+◌, ◌<◌, ◌≤◌, length, drop, None, Some, IfOk, IsOkAnd, MatchResult};
 ghost use Rattle.mode6_frame.specs.Frames.{FrameParts, IsFrame, parts_of, frame_fault_of, leap_of, version_of, mode_of, flag_of, opcode_of, word_at, count_of};
 ghost use Rattle.mode6_frame.specs.Places.{frame_at};
 
