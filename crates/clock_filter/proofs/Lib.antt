@@ -1,0 +1,3 @@
+mod EstimateLemmas
+mod StageLemmas
+mod StandardFacts
