@@ -1,5 +1,5 @@
 -- Worked octets: a request for the variable `stratum`, its answer, errors and names (RFC 9327, sections 2, 3.4 and 4).
-use Rattle.std.proofs.Common.{◌≡◌, ℕ, true, false, List, [], ◌∷◌, ◌++◌, take, drop, Some, None, refl, lit<}
+use Rattle.std.proofs.Common.{◌≡◌, ℕ, true, false, List, [], ◌∷◌, ◌++◌, take, drop, Some, None, refl, lit<, lit≤, ◌≤◌}
 use Rattle.mode6_frame.specs.declared.message.FrameFault.TheVariants.{Short, BadVersion, BadMode, BadCount}
 use Rattle.mode6_frame.specs.declared.message.Head.{Head}
 use Rattle.mode6_frame.specs.Frames.{FrameParts, spelled_frame, head_of, error_parts, frame_fault_of}
@@ -48,13 +48,15 @@ answer_octets =
     0x73 ∷ 0x74 ∷ 0x72 ∷ 0x61 ∷ 0x74 ∷ 0x75 ∷ 0x6d ∷ 0x3d ∷ 0x31 ∷ 0x36 ∷ 0x0d ∷ 0x0a ∷ []
 
 -- an answer about the association, to a request of this operation
-abbrev head : ℕ → ℕ → Head
-head opcode assoc = record {
+abbrev head : (opcode : ℕ) → opcode ≤ 31 → ℕ → Head
+head opcode fits assoc = record {
   version = 2;
   opcode = opcode;
   sequence = 1;
   status = 0xc011;
   assoc = assoc;
+  version_in = lit≤ tt;
+  opcode_in = fits;
 }
 
 request-spelled : spelled_frame request ≡ request_octets
@@ -66,12 +68,12 @@ unfolding head_of
 answer-spelled = refl
 
 -- code 5, an unknown name
-unknown_name-spelled : spelled_frame (error_parts (head 2 0) 5) ≡ 0x16 ∷ 0xc2 ∷ 0 ∷ 1 ∷ 5 ∷ 0 ∷ 0 ∷ 0 ∷ 0 ∷ 0 ∷ 0 ∷ 0 ∷ []
+unknown_name-spelled : spelled_frame (error_parts (head 2 (lit≤ tt) 0) 5) ≡ 0x16 ∷ 0xc2 ∷ 0 ∷ 1 ∷ 5 ∷ 0 ∷ 0 ∷ 0 ∷ 0 ∷ 0 ∷ 0 ∷ 0 ∷ []
 unfolding head_of
 unknown_name-spelled = refl
 
 -- code 4, an unknown association, and its number
-unknown_association-spelled : spelled_frame (error_parts (head 2 9) 4) ≡ 0x16 ∷ 0xc2 ∷ 0 ∷ 1 ∷ 4 ∷ 0 ∷ 0 ∷ 9 ∷ 0 ∷ 0 ∷ 0 ∷ 0 ∷ []
+unknown_association-spelled : spelled_frame (error_parts (head 2 (lit≤ tt) 9) 4) ≡ 0x16 ∷ 0xc2 ∷ 0 ∷ 1 ∷ 4 ∷ 0 ∷ 0 ∷ 9 ∷ 0 ∷ 0 ∷ 0 ∷ 0 ∷ []
 unfolding head_of
 unknown_association-spelled = refl
 

@@ -1,3 +1,5 @@
+ghost use Rattle.std.specs.Prelude.{◌≤◌};
+
 /// The octets before the body.
 pub const HEAD_LEN: usize = 12;
 
@@ -59,4 +61,6 @@ pub struct Head {
     pub status: u16,
     /// The association, or 0 for the system.
     pub assoc: u16,
+    pub ghost version_in: { version ≤ 7 },
+    pub ghost opcode_in: { opcode ≤ 31 },
 }

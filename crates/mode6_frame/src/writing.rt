@@ -25,8 +25,6 @@ pub fn write(frame: &Frame<'_>) -> Octets
 
 /// The error response to a request, with this code (RFC 9327, section 3.4).
 pub fn error_gram(head: &Head, code: u8) -> Octets
-    requires version { head.now.version ≤ 7 }
-    requires opcode { head.now.opcode ≤ 31 }
     ensures spelled { result ≡ spelled_frame (error_parts head.now code) }
     ensures read_back { IsFrameVersion head.now.version
         → (rest : List ℕ) → IsFrame (result ++ rest) (error_parts head.now code) }

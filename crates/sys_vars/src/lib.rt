@@ -1,13 +1,19 @@
 //! What a server publishes of itself: the system's values and its clock, as one record.
 //!
-//! Layer 4. Stands on: `discipline`, `edge_traits`, `fixed_time`.
+//! Layer 4. Stands on: `discipline`, `mode6_frame`, `edge_traits`, `net_addr`, `fixed_time`.
 //! Promises: a server opens with one record, given by its values.
 #![tactic(auto)]
 
+pub mod answer;
+pub mod asked;
 pub mod context;
+pub mod names;
 pub mod published;
 pub mod system;
 
+pub use answer::Answer;
+pub use asked::{Asked, MAX_NAMES, NameNumbers, What};
 pub use context::Context;
+pub use names::{UNKNOWN_NAME, name_number};
 pub use published::Record;
 pub use system::System;

@@ -1,0 +1,8 @@
+use edge_traits::Grams;
+
+/// The answer to a control request.
+#[derive(Drop)]
+pub enum Answer {
+    /// These datagrams, made of the record of this epoch.
+    Given { epoch: u64, grams: Grams },
+}
