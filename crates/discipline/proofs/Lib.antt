@@ -1,1 +1,2 @@
 pub mod SoftClockLemmas
+mod StandardFacts

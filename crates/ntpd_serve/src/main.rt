@@ -9,6 +9,8 @@ mod command;
 mod ending;
 mod once;
 mod report;
+#[cfg(test)]
+mod tests;
 mod usage;
 
 use command::ntpd;

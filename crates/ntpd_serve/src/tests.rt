@@ -1,0 +1,347 @@
+//! Whole runs of `ntpd`, over a host in memory and over a real socket.
+use crate::command::{Ended, ntpd};
+use crate::once::{Common, serve_once};
+use edge_traits::{
+    Event, Incoming, MemoryClock, MemoryHost, MemoryPort, MemorySink, Octets, OpenGate, Port, Salt,
+    Status, Taken, UdpPort,
+};
+use fixed_time::Ntp64;
+use net_addr::{Addr, Ip};
+use std::alloc::{AllocError, Global};
+use std::process::Abort;
+use std::sync::Wait;
+use std::test::Fail;
+use std::thread::Threads;
+
+/// 1 January 1970 (RFC 5905, figure 4).
+const ORIGIN: Ntp64 = Ntp64(0x83aa_7e80_0000_0000);
+
+const SECOND: u64 = 1 << 32;
+
+const CLIENT: Addr = Addr {
+    ip: Ip::V4([10, 0, 0, 1]),
+    port: 40000,
+};
+
+/// A client's request: version 4, poll 6, precision -23, transmit time ORIGIN.
+const REQUEST: [u8; 48] = [
+    0x23, 0, 6, 0xe9, 0, 0, 0, 0, 0, 0, 0, 0, 0, 0, 0, 0, 0, 0, 0, 0, 0, 0, 0, 0, 0, 0, 0, 0, 0, 0,
+    0, 0, 0, 0, 0, 0, 0, 0, 0, 0, 0x83, 0xaa, 0x7e, 0x80, 0, 0, 0, 0,
+];
+
+/// The reply to it of a server that knows no time yet, one second after ORIGIN.
+const REPLY: [u8; 48] = [
+    0xe4, 0, 6, 0xec, 0, 0, 0, 0, 0, 0x10, 0, 0, 0x49, 0x4e, 0x49, 0x54, 0, 0, 0, 0, 0, 0, 0, 0,
+    0x83, 0xaa, 0x7e, 0x80, 0, 0, 0, 0, 0x83, 0xaa, 0x7e, 0x81, 0, 0, 0, 0, 0x83, 0xaa, 0x7e, 0x81,
+    0, 0, 0, 0,
+];
+
+fn octets_of(bytes: &[u8]) -> Octets {
+    let mut octets = Octets::new();
+    for byte in bytes {
+        if octets.len() < 2048 {
+            octets.push(*byte);
+        }
+    }
+    octets
+}
+
+fn words_of(alloc: Global, texts: &[&str]) -> Result<Vec<String>, AllocError> {
+    let mut words = Vec::new(alloc);
+    for text in texts {
+        words.push(String::from_str(alloc, text)?)?;
+    }
+    Ok(words)
+}
+
+/// What a run leaves: its status, what its port saw, and what it printed.
+#[derive(Drop)]
+struct Run {
+    ended: Ended<MemoryPort, MemoryClock>,
+    out: MemorySink,
+}
+
+/// A run of these words over a host whose port finds these datagrams, whose gives with these numbers
+/// fail, and whose sink fails at these writes.
+fn run_over(
+    rt: &(impl Threads + Wait),
+    alloc: Global,
+    texts: &[&str],
+    incoming: Vec<Incoming>,
+    failing_gives: Vec<u64>,
+    failing_writes: Vec<u64>,
+) -> Result<Run, AllocError> {
+    let mut ports = Vec::new(alloc);
+    ports.push(MemoryPort::of(alloc, incoming, failing_gives))?;
+    let mut clocks = Vec::new(alloc);
+    clocks.push(MemoryClock::of(vec![in alloc; SECOND]?))?;
+    let mut host = MemoryHost::of(alloc, ports, clocks, ORIGIN, Salt([0; 16]), Vec::new(alloc));
+    let mut out = MemorySink::of(alloc, failing_writes);
+    let words = words_of(alloc, texts)?;
+    let ended = ntpd(rt, words.as_slice(), &mut host, &OpenGate, &mut out);
+    Ok(Run { ended, out })
+}
+
+/// One datagram from the client.
+fn one(alloc: Global, bytes: &[u8]) -> Result<Vec<Incoming>, AllocError> {
+    let mut incoming = Vec::new(alloc);
+    incoming.push(Incoming::Datagram(CLIENT, octets_of(bytes)))?;
+    Ok(incoming)
+}
+
+/// The octets of the datagrams that a run's port gave, and how many there were.
+fn given(run: &Run) -> (usize, Octets) {
+    let mut count = 0usize;
+    let mut last = Octets::new();
+    if let Some(single) = &run.ended.single {
+        for event in single.port.events() {
+            if let Event::Sent(_, octets) = event {
+                count = count.saturating_add(1);
+                last = octets.copy();
+            }
+        }
+    }
+    (count, last)
+}
+
+fn check_run(rt: &impl Abort, run: &Run, status: u8, printed: &str, count: usize, what: &str) {
+    assert_eq!(rt;
+        run.out.contents(),
+        printed.as_bytes(),
+        "what {what} prints"
+    );
+    assert_eq!(rt; run.ended.status, Status(status), "the status of {what}");
+    let (gave, _) = given(run);
+    assert_eq!(rt; gave, count, "how many datagrams {what} gives");
+}
+
+#[test]
+fn a_request_gets_the_reply_of_a_server_that_knows_no_time(rt: HostRuntime) -> Result<(), Fail> {
+    let incoming = one(rt.alloc(), &REQUEST)?;
+    let none = Vec::new(rt.alloc());
+    let run = run_over(
+        &rt,
+        rt.alloc(),
+        &["once", "127.0.0.1:123"],
+        incoming,
+        none,
+        Vec::new(rt.alloc()),
+    )?;
+    check_run(&rt, &run, 0, "answered 1\n", 1, "the worked request");
+    let (_, reply) = given(&run);
+    assert_eq!(rt; reply.as_slice(), REPLY.as_slice());
+    Ok(())
+}
+
+#[test]
+fn what_is_no_request_gets_no_answer(rt: HostRuntime) -> Result<(), Fail> {
+    let mut longer = [0u8; 56];
+    longer[..48].copy_from_slice(&REQUEST);
+    let mut zero = REQUEST;
+    zero[0] = 0x03;
+    let mut five = REQUEST;
+    five[0] = 0x2b;
+    let mut broadcast = REQUEST;
+    broadcast[0] = 0x25;
+    let cases = [
+        (&REQUEST[..0], "silent packet 1\n"),
+        (&REQUEST[..1], "silent packet 1\n"),
+        (&REQUEST[..47], "silent packet 1\n"),
+        (&zero[..], "silent packet 2\n"),
+        (&five[..], "silent packet 2\n"),
+        (&longer[..], "silent trailer 4\n"),
+        (&longer[..49], "silent trailer 4\n"),
+        (&broadcast[..], "silent unserved 5\n"),
+        (&REPLY[..], "silent unserved 4\n"),
+        (&[0x27], "silent unserved 7\n"),
+        (&[0xc0], "silent unserved 0\n"),
+    ];
+    for (datagram, printed) in cases {
+        let incoming = one(rt.alloc(), datagram)?;
+        let none = Vec::new(rt.alloc());
+        let run = run_over(
+            &rt,
+            rt.alloc(),
+            &["once", "127.0.0.1:123"],
+            incoming,
+            none,
+            Vec::new(rt.alloc()),
+        )?;
+        check_run(&rt, &run, 0, printed, 0, printed);
+    }
+    Ok(())
+}
+
+#[test]
+fn words_that_are_no_command_are_refused(rt: HostRuntime) -> Result<(), Fail> {
+    let cases: [&[&str]; 9] = [
+        &[],
+        &["once"],
+        &["once", "nowhere"],
+        &["once", "127.0.0.1"],
+        &["once", "127.0.0.1:0123"],
+        &["once", "127.0.0.1:65536"],
+        &["once", "127.0.0.1:123", "twice"],
+        &["serve", "ntp.conf"],
+        &["Once", "127.0.0.1:123"],
+    ];
+    for words in cases {
+        let incoming = one(rt.alloc(), &REQUEST)?;
+        let run = run_over(
+            &rt,
+            rt.alloc(),
+            words,
+            incoming,
+            Vec::new(rt.alloc()),
+            Vec::new(rt.alloc()),
+        )?;
+        check_run(&rt, &run, 1, "ntpd: words\n", 0, "the words");
+        assert!(rt; run.ended.single.is_none());
+    }
+    Ok(())
+}
+
+#[test]
+fn faults_and_silences_have_their_status(rt: HostRuntime) -> Result<(), Fail> {
+    let alloc = rt.alloc();
+    let words = ["once", "127.0.0.1:123"];
+
+    let closed = run_over(
+        &rt,
+        rt.alloc(),
+        &words,
+        Vec::new(alloc),
+        Vec::new(alloc),
+        Vec::new(alloc),
+    )?;
+    check_run(
+        &rt,
+        &closed,
+        7,
+        "ntpd: closed\n",
+        0,
+        "a port of no datagrams",
+    );
+
+    let mut quiet = Vec::new(alloc);
+    for _ in 0..60 {
+        quiet.push(Incoming::Quiet)?;
+    }
+    quiet.push(Incoming::Datagram(CLIENT, octets_of(&REQUEST)))?;
+    let quiet = run_over(
+        &rt,
+        rt.alloc(),
+        &words,
+        quiet,
+        Vec::new(alloc),
+        Vec::new(alloc),
+    )?;
+    check_run(
+        &rt,
+        &quiet,
+        6,
+        "ntpd: quiet\n",
+        0,
+        "a port that is quiet for a minute",
+    );
+
+    let mut failing = Vec::new(alloc);
+    failing.push(Incoming::Fail)?;
+    let failing = run_over(
+        &rt,
+        rt.alloc(),
+        &words,
+        failing,
+        Vec::new(alloc),
+        Vec::new(alloc),
+    )?;
+    check_run(&rt, &failing, 4, "ntpd: port\n", 0, "a take that fails");
+
+    let first = vec![in alloc; 0u64]?;
+    let unsent = run_over(
+        &rt,
+        rt.alloc(),
+        &words,
+        one(alloc, &REQUEST)?,
+        first,
+        Vec::new(alloc),
+    )?;
+    check_run(&rt, &unsent, 4, "ntpd: port\n", 0, "a give that fails");
+
+    let first = vec![in alloc; 0u64]?;
+    let unheard = run_over(
+        &rt,
+        rt.alloc(),
+        &words,
+        one(alloc, &REQUEST)?,
+        Vec::new(alloc),
+        first,
+    )?;
+    check_run(&rt, &unheard, 8, "", 1, "a sink that fails");
+    Ok(())
+}
+
+#[test]
+fn a_datagram_after_59_silences_is_answered(rt: HostRuntime) -> Result<(), Fail> {
+    let mut incoming = Vec::new(rt.alloc());
+    for _ in 0..59 {
+        incoming.push(Incoming::Quiet)?;
+    }
+    incoming.push(Incoming::Datagram(CLIENT, octets_of(&REQUEST)))?;
+    let none = Vec::new(rt.alloc());
+    let run = run_over(
+        &rt,
+        rt.alloc(),
+        &["once", "127.0.0.1:123"],
+        incoming,
+        none,
+        Vec::new(rt.alloc()),
+    )?;
+    check_run(&rt, &run, 0, "answered 1\n", 1, "a late request");
+    Ok(())
+}
+
+#[test]
+fn a_host_that_gives_no_port_has_its_status(rt: HostRuntime) -> Result<(), Fail> {
+    let alloc = rt.alloc();
+    let failing = vec![in alloc; 0u64]?;
+    let mut host = MemoryHost::of(
+        alloc,
+        Vec::new(alloc),
+        Vec::new(alloc),
+        ORIGIN,
+        Salt([0; 16]),
+        failing,
+    );
+    let mut out = MemorySink::of(alloc, Vec::new(alloc));
+    let words = words_of(alloc, &["once", "127.0.0.1:123"])?;
+    let ended = ntpd(&rt, words.as_slice(), &mut host, &OpenGate, &mut out);
+    assert_eq!(rt; out.contents(), b"ntpd: host\n".as_slice());
+    assert_eq!(rt; ended.status, Status(3));
+    Ok(())
+}
+
+#[test]
+fn a_request_on_a_real_socket_is_answered(rt: HostRuntime) -> Result<(), Fail> {
+    let any = Addr {
+        ip: Ip::V4([127, 0, 0, 1]),
+        port: 0,
+    };
+    let mut server = UdpPort::bind(&rt, &any)?;
+    let mut client = UdpPort::bind(&rt, &any)?;
+    let at = server.local().ok_or("the server's own address")?;
+    assert!(rt; client.give(&at, &REQUEST).is_ok());
+    let mut clock = MemoryClock::of(vec![in rt.alloc(); SECOND]?);
+    let mut out = MemorySink::of(rt.alloc(), Vec::new(rt.alloc()));
+    let common = Common {
+        salt: Salt([0; 16]),
+        origin: ORIGIN,
+    };
+    let status = serve_once(&mut server, &mut clock, &common, &mut out);
+    assert_eq!(rt; status, Status(0));
+    assert_eq!(rt; out.contents(), b"answered 1\n".as_slice());
+    let mut reply = Octets::new();
+    assert_eq!(rt; client.take(&mut reply), Ok(Taken::Datagram(at)));
+    assert_eq!(rt; reply.as_slice(), REPLY.as_slice());
+    Ok(())
+}
