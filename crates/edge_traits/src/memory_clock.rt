@@ -5,8 +5,8 @@ ghost use Rattle.edge_traits.specs.Memory.{IsNewClock, reading_at, readings_give
 
 use crate::clock::Clock;
 
-/// A clock in memory. It gives its readings in turn, then the last one again, and 0 where it has none.
-/// It tells its readings as long as 64 bits can count them.
+/// A clock in memory. It gives its readings in turn, then the last one again, and 0 where it has
+/// none. It tells its readings as long as 64 bits can count them.
 #[derive(Drop)]
 pub struct MemoryClock {
     readings: Vec<u64>,

@@ -10,8 +10,8 @@ use fixed_time::Ntp64;
 use net_addr::Addr;
 use std::alloc::Global;
 
-/// A host in memory. Its binds give its ports in turn, and past their end ports of no datagrams; its
-/// clocks likewise, and past their end clocks of no readings.
+/// A host in memory. Its binds give its ports in turn, and past their end ports of no datagrams;
+/// its clocks likewise, and past their end clocks of no readings.
 #[derive(Drop)]
 pub struct MemoryHost {
     /// The ports that binds are still to give, the next one first.
@@ -31,8 +31,8 @@ pub struct MemoryHost {
 impl MemoryHost {
     ghost use Rattle.edge_traits.specs.MemoryHosts.{failing_binds, binds_made};
 
-    /// A host of these ports and clocks, which were not called yet. The binds that `failing` numbers,
-    /// from 0, fail.
+    /// A host of these ports and clocks, which were not called yet. The binds that `failing`
+    /// numbers, from 0, fail.
     pub fn of(
         alloc: Global,
         ports: Vec<MemoryPort>,
