@@ -1,0 +1,8 @@
+mod Agreement
+pub mod ClusteringLaws
+mod ClusteringLemmas
+mod CombiningLemmas
+mod Overlaps
+mod Ranks
+pub mod SelectingLemmas
+mod StandardFacts

@@ -1,0 +1,4 @@
+pub mod Clustering
+pub mod Combining
+pub mod Edges
+pub mod Selecting
