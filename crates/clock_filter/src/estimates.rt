@@ -1,7 +1,7 @@
 ghost use Rattle.std.specs.Prelude.{◌≡◌, ◌<◌, ◌≤◌, length, max};
 ghost use Rattle.clock_filter.specs.Estimates.{disp_at, dispersion_of, estimate_of, is_later, jitter_of, mean_root, spread};
 
-use crate::samples::{MAX_DISPERSION, Sample};
+use crate::samples::{MAX_DISPERSION, STAGES, Sample};
 use fixed_time::{Span, isqrt, squared_apart};
 
 /// The least jitter of an estimate, in 32.32 seconds: about one microsecond (our own rule).
@@ -45,7 +45,7 @@ fn sum_dispersions(sorted: &[Sample]) -> u64
 
 /// The squares of how far the offsets are from `about`, summed up: eight stay within 128 bits.
 fn sum_squares(about: Span, samples: &[Sample]) -> u128
-    requires { length samples.now ≤ 8 }
+    requires { length samples.now ≤ STAGES }
     ensures value { result ≡ spread about.0 samples.now }
 {
     let mut squares: u128 = 0;
@@ -58,7 +58,7 @@ fn sum_squares(about: Span, samples: &[Sample]) -> u128
 /// The jitter of two or more samples by delay, about the first.
 fn spread_jitter(sorted: &[Sample]) -> u64
     requires two { 2 ≤ length sorted.now }
-    requires within { length sorted.now ≤ 8 }
+    requires within { length sorted.now ≤ STAGES }
     ensures { result ≡ max MIN_JITTER (mean_root sorted.now) }
 {
     let squares = sum_squares(sorted[0].offset, sorted);
@@ -67,7 +67,7 @@ fn spread_jitter(sorted: &[Sample]) -> u64
 
 /// The jitter of the samples by delay, least first.
 fn measure_jitter(sorted: &[Sample]) -> u64
-    requires { length sorted.now ≤ 8 }
+    requires { length sorted.now ≤ STAGES }
     ensures { result ≡ jitter_of sorted.now }
 {
     if sorted.len() < 2 {
@@ -89,7 +89,7 @@ fn comes_later(last: Option<u64>, at: u64) -> bool
 
 /// The estimate of samples by delay, where the first is later than the one of the last estimate.
 pub(crate) fn make_estimate(last: Option<u64>, sorted: &[Sample]) -> Option<Estimate>
-    requires { length sorted.now ≤ 8 }
+    requires { length sorted.now ≤ STAGES }
     ensures { result ≡ estimate_of last sorted.now }
 {
     if sorted.is_empty() {

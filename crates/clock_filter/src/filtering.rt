@@ -6,7 +6,7 @@ ghost use Rattle.clock_filter.specs.Filtering.{empty_state, last_given};
 ghost use Rattle.clock_filter.specs.Samples.{delay_of, next_samples, stages_of};
 
 use crate::estimates::{Estimate, make_estimate};
-use crate::samples::{PHI, Sample, Samples, make_next, make_stages, sort_by_delay};
+use crate::samples::{PHI, Sample, SampleList, make_next, make_stages, sort_by_delay};
 use arrayvec::ArrayVec;
 use fixed_time::drift;
 use std::marker::Model;
@@ -15,7 +15,7 @@ use std::marker::Model;
 /// estimate.
 #[derive(Drop)]
 pub struct Filter {
-    samples: Samples,
+    samples: SampleList,
     put_at: u64,
     given_at: Option<u64>,
 }
