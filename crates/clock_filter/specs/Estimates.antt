@@ -1,10 +1,10 @@
--- What a clock filter tells of its samples, by delay and least first (RFC 5905, section 10; the roundings and the least jitter are our own rules).
+-- What a clock filter tells of its samples, by delay and least first (RFC 5905, section 10; the roundings, the least jitter and that the mean is taken under the root are our own rules).
 use Rattle.std.specs.Prelude.{ℕ, ℤ, ◌+◌, ◌/◌, ◌^◌, List, [], ◌∷◌, Option, None, Some, Bool, true, map, sum_by, length, max, nat_lt, slice_index_or, if◌then◌else◌}
 use Rattle.std.specs.List.{range_with_len}
 use Rattle.fixed_time.specs.Apart.{squared_apart_of}
 use Rattle.fixed_time.specs.Root.{root}
 use Rattle.clock_filter.specs.declared.samples.Sample.{Sample}
-use Rattle.clock_filter.specs.declared.samples.TheConstants.{MAX_DISPERSION}
+use Rattle.fixed_time.specs.declared.time.TheConstants.{MAX_DISPERSION}
 use Rattle.clock_filter.specs.declared.estimates.Estimate.{Estimate}
 use Rattle.clock_filter.specs.declared.estimates.TheConstants.{MIN_JITTER}
 

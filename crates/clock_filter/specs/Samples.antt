@@ -1,7 +1,7 @@
--- The samples of a clock filter, newest first (RFC 5905, section 10; the order of the steps is our own rule).
+-- The samples of a clock filter, newest first (RFC 5905, section 10; the order of the steps and the cap of ageing are our own rules).
 use Rattle.std.specs.Prelude.{ℕ, ◌+◌, ◌-◌, List, ◌∷◌, ◌++◌, Option, None, Some, length, map, min, replicate, take}
 use Rattle.clock_filter.specs.declared.samples.Sample.{Sample}
-use Rattle.clock_filter.specs.declared.samples.TheConstants.{MAX_DISPERSION}
+use Rattle.fixed_time.specs.declared.time.TheConstants.{MAX_DISPERSION}
 
 -- samples are put in order by their delay
 abbrev pub delay_of : Sample → ℕ

@@ -1,8 +1,8 @@
 ghost use Rattle.std.specs.Prelude.{◌≡◌, ◌<◌, ◌≤◌, length, max};
 ghost use Rattle.clock_filter.specs.Estimates.{disp_at, dispersion_of, estimate_of, is_later, jitter_of, mean_root, spread};
 
-use crate::samples::{MAX_DISPERSION, STAGES, Sample};
-use fixed_time::{Span, isqrt, squared_apart};
+use crate::samples::{STAGES, Sample};
+use fixed_time::{MAX_DISPERSION, Span, isqrt, squared_apart};
 
 /// The least jitter of an estimate, in 32.32 seconds: about one microsecond (our own rule).
 pub const MIN_JITTER: u64 = 4096;

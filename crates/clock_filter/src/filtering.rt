@@ -6,13 +6,13 @@ ghost use Rattle.clock_filter.specs.Filtering.{empty_state, last_given};
 ghost use Rattle.clock_filter.specs.Samples.{delay_of, next_samples, stages_of};
 
 use crate::estimates::{Estimate, make_estimate};
-use crate::samples::{PHI, Sample, SampleList, make_next, make_stages, sort_by_delay};
+use crate::samples::{Sample, SampleList, make_next, make_stages, sort_by_delay};
 use arrayvec::ArrayVec;
-use fixed_time::drift;
+use fixed_time::{PHI, drift};
 use std::marker::Model;
 
-/// The eight latest samples of a server, with the moment of the last put and that of the last
-/// estimate.
+/// The eight latest samples of a server, with the moment of the last put and when the sample of the
+/// last estimate arrived.
 #[derive(Drop)]
 pub struct Filter {
     samples: SampleList,

@@ -11,4 +11,4 @@ pub mod samples;
 
 pub use estimates::{Estimate, MIN_JITTER};
 pub use filtering::Filter;
-pub use samples::{MAX_DISPERSION, PHI, STAGES, Sample};
+pub use samples::{STAGES, Sample};

@@ -1,4 +1,4 @@
-/// The state of the clock discipline (RFC 5905, section 11.3, figure 26).
+/// The state of the clock discipline (RFC 5905, section 11.3, figure 28).
 #[derive(Clone, Copy, Debug, PartialEq, Eq)]
 pub enum State {
     /// Neither time nor frequency was set yet.

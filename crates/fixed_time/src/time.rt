@@ -13,6 +13,13 @@ pub struct Short(pub u32);
 #[derive(Clone, Copy, Debug, PartialEq, Eq)]
 pub struct Span(pub i64);
 
+/// The frequency tolerance: how fast a clock may drift, in parts per million (RFC 5905, section 7.2:
+/// TOLERANCE).
+pub const PHI: u32 = 15;
+
+/// The maximum dispersion, 16 seconds, in 32.32 (RFC 5905, section 7.2: MAXDISP).
+pub const MAX_DISPERSION: u64 = 16 << 32;
+
 /// The timestamp `n` units of 2^-32 seconds after `a`, modulo 2^64.
 pub fn add_raw(a: Ntp64, n: u64) -> Ntp64
     ensures { result.0 ≡ (a.0 + n) % 2 ^ 64 }

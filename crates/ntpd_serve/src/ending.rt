@@ -17,7 +17,7 @@ pub enum Ending {
     HostFailed,
     /// The port failed.
     PortFailed,
-    /// No datagram came for a minute.
+    /// So many takes in a row found nothing that the run gave up.
     Quiet,
     /// The port was closed.
     Closed,

@@ -5,7 +5,7 @@ ghost use Rattle.server_core.specs.Reply.{shown_stratum, root_dispersion_at, rep
 use crate::class::Ask;
 use discipline::SoftClock;
 use edge_traits::Octets;
-use fixed_time::{Short, drift, to_short};
+use fixed_time::{MAX_DISPERSION, PHI, Short, drift, to_short};
 use ntp_packet::{HEADER_LEN, Header};
 use sys_vars::System;
 
@@ -15,12 +15,6 @@ pub const MODE_SERVER: u8 = 4;
 /// The stratum of a server that is not synchronized (RFC 5905, section 7.3, figure 11).
 pub const UNSYNCHRONIZED: u8 = 16;
 
-/// The frequency tolerance, in parts per million (RFC 5905, section 7.2).
-pub const PPM: u32 = 15;
-
-/// The maximum dispersion, 16 seconds, in 32.32 (RFC 5905, section 7.2).
-pub const MAX_DISPERSION: u64 = 16 << 32;
-
 /// What a reply is made of: the system and the clock of one record.
 #[derive(Clone, Copy, Debug, PartialEq, Eq)]
 pub struct Basis {
@@ -29,7 +23,7 @@ pub struct Basis {
 }
 
 /// The reply to a request that came at the moment `came` and is answered at the moment `sent`.
-/// Its transmit time is never before its receive time.
+/// Its transmit time is that of the later moment.
 pub fn time_reply(basis: &Basis, ask: &Ask, came: u64, sent: u64) -> Octets
     ensures value { result ≡ time_reply_of basis.now ask.now came sent }
     ensures len { length result ≡ HEADER_LEN }
@@ -77,6 +71,6 @@ fn stratum_shown(stratum: u8) -> u8
 fn root_dispersion(system: &System, moment: u64) -> Short
     ensures { result.0 ≡ to_short_of (root_dispersion_at system.now moment) }
 {
-    let grown = drift(moment.saturating_sub(system.at), PPM);
+    let grown = drift(moment.saturating_sub(system.at), PHI);
     to_short(system.root_disp.saturating_add(grown).min(MAX_DISPERSION))
 }

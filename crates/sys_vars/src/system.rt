@@ -36,7 +36,7 @@ pub struct System {
     pub state: State,
     /// The clock source of the system status word (RFC 9327, section 3.1).
     pub source: u8,
-    /// How many events came since they were last read, at most 15.
+    /// How many events came, at most 15.
     pub events: u8,
     /// The code of the last event (RFC 9327, section 3.1).
     pub code: u8,
