@@ -16,6 +16,7 @@ pub fn write(frame: &Frame<'_>) -> Octets
     ensures spelled { result ≡ spelled_frame (parts_of frame.now) }
     ensures read_back { IsFrameVersion frame.now.version
         → (rest : List ℕ) → IsFrame (result ++ rest) (parts_of frame.now) }
+    ensures short { length result ≤ HEAD_LEN + MAX_BODY }
 {
     let mut octets = head_octets(frame);
     octets.put(frame.body);
@@ -28,6 +29,7 @@ pub fn error_gram(head: &Head, code: u8) -> Octets
     ensures spelled { result ≡ spelled_frame (error_parts head.now code) }
     ensures read_back { IsFrameVersion head.now.version
         → (rest : List ℕ) → IsFrame (result ++ rest) (error_parts head.now code) }
+    ensures short { length result ≤ HEAD_LEN + MAX_BODY }
 {
     write(&Frame {
         leap: 0,
@@ -96,7 +98,7 @@ fn put_word(octets: &mut Octets, word: u16)
 fn padding(len: usize) -> &'static [u8]
     requires { len ≤ MAX_BODY }
     ensures padding { result.now ≡ padding_of len }
-    ensures short { length result.now ≤ 3 }
+    ensures short { len + length result.now ≤ MAX_BODY }
 {
     match len % 4 {
         1 => &[0; 3],
