@@ -9,6 +9,7 @@ pub mod asked;
 pub mod context;
 pub mod names;
 pub mod published;
+pub mod status;
 pub mod system;
 
 pub use answer::Answer;
@@ -16,4 +17,5 @@ pub use asked::{Asked, MAX_NAMES, NameNumbers, What};
 pub use context::Context;
 pub use names::{UNKNOWN_NAME, name_number};
 pub use published::Record;
+pub use status::system_status;
 pub use system::System;

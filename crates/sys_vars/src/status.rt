@@ -1,0 +1,38 @@
+ghost use Rattle.std.specs.Prelude.{◌≡◌, ◌+◌, ◌*◌, ◌^◌, ◌≤◌};
+ghost use Rattle.sys_vars.specs.Status.{system_status_of};
+
+use crate::system::System;
+
+/// The system status word (RFC 9327, section 3.1): of 16 bits, the leap indicator has 2, the clock
+/// source 6, the event counter 4 and the event code 4.
+pub fn system_status(s: &System) -> u16
+    ensures { result ≡ system_status_of s.now }
+{
+    status_word(s.leap, s.source, s.events, s.code)
+}
+
+fn status_word(leap: u8, source: u8, events: u8, code: u8) -> u16
+    requires leap { leap ≤ 3 }
+    requires source { source ≤ 63 }
+    requires events { events ≤ 15 }
+    requires code { code ≤ 15 }
+    ensures { result ≡ leap * 2 ^ 14 + source * 2 ^ 8 + events * 2 ^ 4 + code }
+{
+    u16::from(leap) * (1 << 14)
+        + u16::from(source) * (1 << 8)
+        + u16::from(events) * (1 << 4)
+        + u16::from(code)
+}
+
+#[cfg(test)]
+mod tests {
+    use super::*;
+    use crate::published::Record;
+    use fixed_time::Ntp64;
+
+    #[test]
+    fn a_server_opens_with_one_event_and_no_source(rt: HostRuntime) {
+        let record = Record::opening(Ntp64(0));
+        assert_eq!(rt; system_status(&record.system), 0xc011);
+    }
+}
