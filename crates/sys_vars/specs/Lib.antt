@@ -1,3 +1,4 @@
 pub mod Opening
 pub mod Names
 pub mod Status
+pub mod Variables

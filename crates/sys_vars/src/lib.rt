@@ -9,8 +9,10 @@ pub mod asked;
 pub mod context;
 pub mod names;
 pub mod published;
+mod refid_text;
 pub mod status;
 pub mod system;
+pub mod variables;
 
 pub use answer::Answer;
 pub use asked::{Asked, MAX_NAMES, NameNumbers, What};
@@ -19,3 +21,4 @@ pub use names::{UNKNOWN_NAME, name_number};
 pub use published::Record;
 pub use status::system_status;
 pub use system::System;
+pub use variables::{VarsFault, items};

@@ -1,0 +1,94 @@
+ghost use Rattle.std.specs.Prelude.{◌≡◌, ◌++◌, ◌==◌, IfOk, OnOk, codes, decimal, position};
+ghost use Rattle.std.specs.List.{list_all};
+ghost use Rattle.std.specs.Char.{is_ascii_alphanumeric};
+ghost use Rattle.std.specs.Net.Text.{ipv4_text};
+ghost use Rattle.hex.specs.Hex.{encode_lower};
+ghost use Rattle.sys_vars.specs.Variables.{before_zero, is_code, refid_text};
+
+use itoa::Buffer;
+use mode6_frame::Text;
+use std::alloc::{AllocError, Global};
+
+/// The text of a reference identifier (RFC 5905, section 7.3).
+///
+/// From stratum 2 to 15 it is the address of the source, in dotted decimal. Else it is a code of
+/// letters and digits, as `GPS`; what is no code is shown in hexadecimal digits, as `0x00000000`.
+#[tactic(auto, unfolding(crate::specs::Variables::refid_text))]
+pub fn refid_text(alloc: Global, stratum: u8, refid: &[u8; 4]) -> Result<Text, AllocError>
+    ensures { IfOk result (λ text. text ≡ refid_text stratum refid.now) }
+{
+    if (2..=15).contains(&stratum) {
+        dotted(alloc, refid)
+    } else if is_code(refid) {
+        code(alloc, refid)
+    } else {
+        hexadecimal(alloc, refid)
+    }
+}
+
+fn dotted(alloc: Global, octets: &[u8; 4]) -> Result<Text, AllocError>
+    ensures { IfOk result (λ text. text ≡ ipv4_text octets.now) }
+{
+    let mut text = Vec::new(alloc);
+    put_decimal(&mut text, octets[0])?;
+    put_after_point(&mut text, octets[1])?;
+    put_after_point(&mut text, octets[2])?;
+    put_after_point(&mut text, octets[3])?;
+    Ok(Text::of(text))
+}
+
+fn put_decimal(text: &mut Vec<u8>, n: u8) -> Result<(), AllocError>
+    ensures { OnOk result (text.new.items ≡ text.old.items ++ decimal n) }
+{
+    let mut digits = Buffer::new();
+    text.extend_from_slice(digits.format(n).as_bytes())
+}
+
+fn put_after_point(text: &mut Vec<u8>, n: u8) -> Result<(), AllocError>
+    ensures { OnOk result (text.new.items ≡ text.old.items ++ codes "." ++ decimal n) }
+{
+    text.push(b'.')?;
+    put_decimal(text, n)
+}
+
+fn is_code(octets: &[u8; 4]) -> bool
+    ensures { result ≡ is_code octets.now }
+{
+    let code = before_zero(octets);
+    !code.is_empty() && is_alphanumeric(code)
+}
+
+fn is_alphanumeric(octets: &[u8]) -> bool
+    ensures { result ≡ list_all is_ascii_alphanumeric octets.now }
+{
+    octets.iter().all(|octet| octet.is_ascii_alphanumeric())
+}
+
+fn before_zero(octets: &[u8]) -> &[u8]
+    ensures { result.now ≡ before_zero octets.now }
+{
+    match first_zero(octets) {
+        Some(len) => &octets[..len],
+        None => octets,
+    }
+}
+
+fn first_zero(octets: &[u8]) -> Option<usize>
+    ensures { result ≡ position (λ octet. octet == 0) octets.now }
+{
+    octets.iter().position(|&octet| octet == 0)
+}
+
+fn code(alloc: Global, octets: &[u8; 4]) -> Result<Text, AllocError>
+    ensures { IfOk result (λ text. text ≡ before_zero octets.now) }
+{
+    Ok(Text::of(Vec::from_slice(alloc, before_zero(octets))?))
+}
+
+fn hexadecimal(alloc: Global, octets: &[u8; 4]) -> Result<Text, AllocError>
+    ensures { IfOk result (λ text. text ≡ codes "0x" ++ encode_lower octets.now) }
+{
+    let mut text = Vec::from_slice(alloc, b"0x")?;
+    text.extend_from_slice(hex::encode(alloc, octets.as_slice())?.as_bytes())?;
+    Ok(Text::of(text))
+}
