@@ -1,2 +1,4 @@
 pub mod VariableLemmas
+pub mod TextLemmas
+pub mod AnswerLemmas
 mod StandardFacts

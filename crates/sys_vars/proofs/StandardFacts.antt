@@ -1,14 +1,17 @@
--- Worked values: what a server that opens publishes of itself, and texts of reference identifiers (RFC 9327,
--- sections 3.1 and 4; RFC 5905, section 7.3).
-use Rattle.std.proofs.Common.{◌≡◌, ℕ, List, [], ◌∷◌, Option, Some, None, refl}
+-- Worked values: what a server that opens publishes of itself, texts of reference identifiers, and datagrams
+-- that answer (RFC 9327, sections 2, 3.1, 3.4 and 4; RFC 5905, section 7.3).
+use Rattle.std.proofs.Common.{◌≡◌, ℕ, replicate, lit≤, List, [], ◌∷◌, Option, Some, None, refl}
 use Rattle.std.specs.Prelude.{codes}
 use Rattle.std.specs.Fmt.{digits}
 use Rattle.hex.specs.Hex.{encode_with}
 use Rattle.mode6_frame.specs.declared.items.Item.{Item}
+use Rattle.mode6_frame.specs.declared.message.Head.{Head}
+use Rattle.mode6_frame.specs.Frames.{head_of}
 use Rattle.sys_vars.specs.declared.variables.VarsFault.TheVariants.{UnknownAssociation, UnknownName}
-use Rattle.sys_vars.specs.Opening.{opening_system}
+use Rattle.sys_vars.specs.Opening.{opening_system, opening_record}
 use Rattle.sys_vars.specs.Status.{system_status_of}
 use Rattle.sys_vars.specs.Variables.{refid_text, variable_of, variables_of, vars_fault_of}
+use Rattle.sys_vars.specs.Answers.{plain_text, error_octets, vars_gram, text_gram}
 
 -- the clock is not synchronized, and one event came, whose code is 1
 opening-status : system_status_of opening_system ≡ 0xc011
@@ -18,6 +21,14 @@ opening-status = refl
 opening-variables : variables_of opening_system [] ≡ record { name = codes "leap"; value = Some (codes "3") } ∷ record { name = codes "stratum"; value = Some (codes "16") } ∷ record { name = codes "refid"; value = Some (codes "INIT") } ∷ []
 unfolding variable_of refid_text encode_with digits
 opening-variables = refl
+
+opening-stratum : plain_text (variables_of opening_system (2 ∷ [])) ≡ codes "stratum=16\r\n"
+unfolding variable_of digits
+opening-stratum = refl
+
+opening-text : plain_text (variables_of opening_system (6 ∷ 1 ∷ [])) ≡ codes "refid=INIT, leap=3\r\n"
+unfolding variable_of refid_text encode_with digits
+opening-text = refl
 
 -- a primary server whose source is the Global Position System
 gps-text : refid_text 1 (0x47 ∷ 0x50 ∷ 0x53 ∷ 0 ∷ []) ≡ codes "GPS"
@@ -49,3 +60,40 @@ name-fault = refl
 
 no-fault : vars_fault_of 0 (6 ∷ 2 ∷ 1 ∷ []) ≡ None
 no-fault = refl
+
+-- a request of version 2 to read variables of an association
+abbrev head : ℕ → Head
+head assoc = record {
+  version = 2;
+  opcode = 2;
+  sequence = 1;
+  status = 0;
+  assoc = assoc;
+  version_in = lit≤ tt;
+  opcode_in = lit≤ tt;
+}
+
+-- status c011; the body is `stratum=16`, carriage return and line feed
+stratum-answer : vars_gram (opening_record (record { 0 = 0 })) (head 0) (2 ∷ []) ≡
+    0x16 ∷ 0x82 ∷ 0x00 ∷ 0x01 ∷ 0xc0 ∷ 0x11 ∷ 0x00 ∷ 0x00 ∷ 0x00 ∷ 0x00 ∷ 0x00 ∷ 0x0c ∷
+    0x73 ∷ 0x74 ∷ 0x72 ∷ 0x61 ∷ 0x74 ∷ 0x75 ∷ 0x6d ∷ 0x3d ∷ 0x31 ∷ 0x36 ∷ 0x0d ∷ 0x0a ∷ []
+unfolding vars_gram text_gram variable_of digits head_of
+stratum-answer = refl
+
+-- code 5, an unknown name
+name-answer : vars_gram (opening_record (record { 0 = 0 })) (head 0) (2 ∷ 255 ∷ []) ≡
+    0x16 ∷ 0xc2 ∷ 0x00 ∷ 0x01 ∷ 0x05 ∷ 0x00 ∷ 0x00 ∷ 0x00 ∷ 0x00 ∷ 0x00 ∷ 0x00 ∷ 0x00 ∷ []
+unfolding vars_gram head_of
+name-answer = refl
+
+-- code 4, an unknown association, and its number
+association-answer : vars_gram (opening_record (record { 0 = 0 })) (head 9) (2 ∷ []) ≡
+    0x16 ∷ 0xc2 ∷ 0x00 ∷ 0x01 ∷ 0x04 ∷ 0x00 ∷ 0x00 ∷ 0x09 ∷ 0x00 ∷ 0x00 ∷ 0x00 ∷ 0x00 ∷ []
+unfolding vars_gram head_of
+association-answer = refl
+
+-- forty times `stratum=16` is a text of 480 octets: code 2
+long-answer : vars_gram (opening_record (record { 0 = 0 })) (head 0) (replicate 40 2) ≡
+    0x16 ∷ 0xc2 ∷ 0x00 ∷ 0x01 ∷ 0x02 ∷ 0x00 ∷ 0x00 ∷ 0x00 ∷ 0x00 ∷ 0x00 ∷ 0x00 ∷ 0x00 ∷ []
+unfolding vars_gram text_gram variable_of digits head_of
+long-answer = refl

@@ -2,3 +2,4 @@ pub mod Opening
 pub mod Names
 pub mod Status
 pub mod Variables
+pub mod Answers

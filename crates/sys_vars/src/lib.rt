@@ -5,6 +5,7 @@
 #![tactic(auto)]
 
 pub mod answer;
+pub mod answering;
 pub mod asked;
 pub mod context;
 pub mod names;

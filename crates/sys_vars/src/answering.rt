@@ -1,0 +1,225 @@
+ghost use Rattle.std.specs.Prelude.{◌≡◌, ◌≤◌, ◌++◌, ◌==◌, if◌then◌else◌, [], IfOk, OnOk, length, codes};
+ghost use Rattle.mode6_frame.specs.Frames.{spelled_frame};
+ghost use Rattle.sys_vars.specs.Answers.{answer_of, gram_of, vars_gram, text_gram, response_parts, item_text, plain_text};
+
+use crate::answer::Answer;
+use crate::asked::{Asked, What};
+use crate::context::Context;
+use crate::published::Record;
+use crate::status::system_status;
+use crate::variables::{VarsFault, items};
+use edge_traits::{Grams, Octets};
+use mode6_frame::{Frame, Head, Item, Items, MAX_BODY, error_gram, write};
+use std::alloc::{AllocError, Global};
+
+/// The error code of a bad format or length (RFC 9327, section 3.4).
+pub const BAD_FORMAT: u8 = 2;
+
+/// The error code of an unknown association identifier.
+pub const BAD_ASSOCIATION: u8 = 4;
+
+/// The error code of an unknown variable name.
+pub const BAD_NAME: u8 = 5;
+
+/// The answer to a control request, made of one record (RFC 9327, sections 2 and 4).
+///
+/// The variables that are asked for stand in one datagram, as `stratum=16, refid=INIT`, a carriage
+/// return and a line feed. Our own rule: a text of more than 468 octets is refused as a bad format.
+/// These requests need nothing of the context.
+pub fn answer(
+    alloc: Global,
+    rec: &Record,
+    a: &Asked,
+    _context: &Context,
+) -> Result<Answer, AllocError>
+    ensures { IfOk result (λ given. given ≡ answer_of rec.now a.now) }
+{
+    let gram = gram(alloc, rec, a)?;
+    let mut grams = Vec::new(alloc);
+    grams.push(gram)?;
+    Ok(Answer::Given {
+        epoch: rec.epoch,
+        grams: Grams::of(grams),
+    })
+}
+
+fn gram(alloc: Global, rec: &Record, a: &Asked) -> Result<Octets, AllocError>
+    ensures { IfOk result (λ gram. gram ≡ gram_of rec.now a.now) }
+{
+    match &a.what {
+        What::Bad(code) => Ok(error_gram(&a.head, *code)),
+        What::Vars(names) => vars_gram(alloc, rec, &a.head, names.as_slice()),
+    }
+}
+
+fn vars_gram(alloc: Global, rec: &Record, head: &Head, names: &[u8]) -> Result<Octets, AllocError>
+    ensures { IfOk result (λ gram. gram ≡ vars_gram rec.now head.now names.now) }
+{
+    match items(alloc, rec, head.assoc, names) {
+        Ok(items) => text_gram(alloc, rec, head, &items),
+        Err(VarsFault::UnknownAssociation) => Ok(error_gram(head, BAD_ASSOCIATION)),
+        Err(VarsFault::UnknownName { .. }) => Ok(error_gram(head, BAD_NAME)),
+        Err(VarsFault::NoMemory) => Err(AllocError),
+    }
+}
+
+#[tactic(auto, unfolding(crate::specs::Answers::text_gram))]
+fn text_gram(alloc: Global, rec: &Record, head: &Head, items: &Items) -> Result<Octets, AllocError>
+    ensures { IfOk result (λ gram. gram ≡ text_gram rec.now head.now items.now) }
+{
+    let text = plain_text(alloc, items)?;
+    if text.len() > MAX_BODY {
+        Ok(error_gram(head, BAD_FORMAT))
+    } else {
+        Ok(response(head, system_status(&rec.system), text.as_slice()))
+    }
+}
+
+fn response(head: &Head, status: u16, text: &[u8]) -> Octets
+    requires { length text.now ≤ MAX_BODY }
+    ensures { result ≡ spelled_frame (response_parts head.now status text.now) }
+{
+    write(&Frame {
+        leap: 0,
+        version: head.version,
+        response: true,
+        error: false,
+        more: false,
+        opcode: head.opcode,
+        sequence: head.sequence,
+        status,
+        assoc: head.assoc,
+        offset: 0,
+        body: text,
+        rest: &[],
+    })
+}
+
+fn plain_text(alloc: Global, items: &Items) -> Result<Vec<u8>, AllocError>
+    ensures { IfOk result (λ text. text.items ≡ plain_text items.now) }
+{
+    let mut text = Vec::new(alloc);
+    for i in 0..items.len() {
+        put_item(&mut text, separator(i), items.get(i))?;
+    }
+    text.extend_from_slice(b"\r\n")?;
+    Ok(text)
+}
+
+fn separator(i: usize) -> &'static [u8]
+    ensures { result.now ≡ (if i == 0 then [] else codes ", ") }
+{
+    if i == 0 { b"" } else { b", " }
+}
+
+fn put_item(text: &mut Vec<u8>, before: &[u8], item: &Item) -> Result<(), AllocError>
+    ensures { OnOk result
+        (text.new.items ≡ text.old.items ++ before.now ++ item_text item.now) }
+{
+    text.extend_from_slice(before)?;
+    text.extend_from_slice(item.name.as_slice())?;
+    if let Some(value) = &item.value {
+        text.push(b'=')?;
+        text.extend_from_slice(value.as_slice())?;
+    }
+    Ok(())
+}
+
+#[cfg(test)]
+mod tests {
+    use super::*;
+    use crate::asked::{MAX_NAMES, NameNumbers};
+    use crate::system::System;
+    use edge_traits::Salt;
+    use fixed_time::Ntp64;
+    use net_addr::{Addr, Ip};
+    use std::test::Fail;
+
+    const CONTEXT: Context = Context {
+        salt: Salt([0; 16]),
+        origin: Ntp64(0),
+        moment: 0,
+    };
+
+    fn variables(alloc: Global, names: &[u8]) -> Result<What, AllocError>
+        requires { length names.now ≤ MAX_NAMES }
+    {
+        Ok(What::Vars(NameNumbers::of(Vec::from_slice(alloc, names)?)))
+    }
+
+    /// The one datagram that answers.
+    fn reply(
+        rt: &HostRuntime,
+        rec: &Record,
+        opcode: u8,
+        assoc: u16,
+        what: What,
+    ) -> Result<Octets, AllocError> {
+        assert!(rt; opcode <= 31);
+        let asked = Asked {
+            from: Addr {
+                ip: Ip::V4([192, 0, 2, 1]),
+                port: 123,
+            },
+            head: Head {
+                version: 2,
+                opcode,
+                sequence: 1,
+                status: 0,
+                assoc,
+            },
+            what,
+        };
+        let Answer::Given { epoch, grams } = answer(rt.alloc(), rec, &asked, &CONTEXT)?;
+        assert_eq!(rt; epoch, rec.epoch);
+        assert_eq!(rt; grams.len(), 1);
+        Ok(grams.get(0).copy())
+    }
+
+    #[test]
+    fn variables_are_given_or_refused(rt: HostRuntime) -> Result<(), Fail> {
+        let opening = Record::opening(Ntp64(0));
+        let cases = [
+            (
+                0,
+                b"\x02".as_slice(),
+                b"\x16\x82\x00\x01\xc0\x11\x00\x00\x00\x00\x00\x0cstratum=16\r\n".as_slice(),
+            ),
+            (
+                0,
+                b"\x06\x01".as_slice(),
+                b"\x16\x82\x00\x01\xc0\x11\x00\x00\x00\x00\x00\x14refid=INIT, leap=3\r\n".as_slice(),
+            ),
+            (
+                0,
+                b"".as_slice(),
+                b"\x16\x82\x00\x01\xc0\x11\x00\x00\x00\x00\x00\x20leap=3, stratum=16, refid=INIT\r\n".as_slice(),
+            ),
+            (
+                0,
+                b"\xff".as_slice(),
+                b"\x16\xc2\x00\x01\x05\x00\x00\x00\x00\x00\x00\x00".as_slice(),
+            ),
+            (
+                9,
+                b"\x02".as_slice(),
+                b"\x16\xc2\x00\x01\x04\x00\x00\x09\x00\x00\x00\x00".as_slice(),
+            ),
+        ];
+        for (assoc, names, wanted) in cases {
+            assert!(rt; names.len() <= MAX_NAMES);
+            let octets = reply(&rt, &opening, 2, assoc, variables(rt.alloc(), names)?)?;
+            assert!(rt; octets.as_slice() == wanted, "{names:?}");
+        }
+        Ok(())
+    }
+
+    #[test]
+    fn a_bad_request_gets_its_error(rt: HostRuntime) -> Result<(), Fail> {
+        let opening = Record::opening(Ntp64(0));
+        let octets = reply(&rt, &opening, 3, 0, What::Bad(3))?;
+        let wanted = b"\x16\xc3\x00\x01\x03\x00\x00\x00\x00\x00\x00\x00".as_slice();
+        assert!(rt; octets.as_slice() == wanted);
+        Ok(())
+    }
+}
