@@ -1,17 +1,24 @@
 -- A datagram has one class.
-use Rattle.std.proofs.Common.{◌≡◌, ◌≢◌, ◌≤◌, ℕ, List, [], length, None, sym, ap, subst, ℤ, ◌∙◌, inl, inr, arith, Bool, false, ◌==◌}
+use Rattle.std.proofs.Common.{◌≡◌, ◌≢◌, ◌≤◌, ℕ, List, [], ◌∷◌, length, None, Some, refl, sym, ap, subst, ℤ, ◌∙◌, inl, inr, arith, Bool, true, false, ◌==◌, ◌<◌, ◌⊎◌}
 use Rattle.std.proofs.Math.Bridge.{le_prop}
+use Rattle.std.proofs.lemmas.Bool.Decides.{nat_tests}
 use Rattle.fixed_time.specs.declared.time.Ntp64.{Ntp64}
 use Rattle.net_addr.specs.declared.addr.Addr.{Addr}
 use Rattle.ntp_packet.specs.declared.packet.Header.{Header}
+use Rattle.ntp_packet.specs.declared.packet.PacketFault.{PacketFault}
 use Rattle.ntp_packet.specs.declared.packet.TheConstants.{HEADER_LEN}
 use Rattle.ntp_packet.specs.Packet.{IsPacket, fault_of, mode_of}
-use Rattle.server_core.specs.declared.class.TheConstants.{MODE_CLIENT}
+use Rattle.mode6_frame.specs.declared.message.FrameFault.{FrameFault}
+use Rattle.mode6_frame.specs.Frames.{FrameParts, IsFrame, frame_fault_of}
+use Rattle.sys_vars.specs.declared.asked.Asked.{Asked}
+use Rattle.server_core.specs.declared.class.TheConstants.{MODE_CLIENT, MODE_CONTROL}
 use Rattle.server_core.specs.declared.class.Ask.{Ask}
 use Rattle.server_core.specs.declared.class.Class.{Class}
-use Rattle.server_core.specs.declared.class.Class.TheVariants.{Silent, Time}
-use Rattle.server_core.specs.declared.class.Unheard.TheVariants.{Packet, Trailer, Unserved}
-use Rattle.server_core.specs.Class.{IsClass, IsAskOf}
+use Rattle.server_core.specs.declared.class.Class.TheVariants.{Silent, Time, Look}
+use Rattle.server_core.specs.declared.class.Unheard.TheVariants.{Packet, Trailer, Frame, Unserved, NotRequest}
+use Rattle.server_core.specs.Class.{IsClass, IsAskOf, packet_number}
+use Rattle.server_core.specs.Control.{IsRequest, IsAskedOf, frame_number, has_answer_bit}
+use Rattle.server_core.proofs.ControlLemmas.{frame_mode}
 
 -- no octets have no mode of a client
 client_is_some : (octets : List ℕ) → mode_of octets ≡ MODE_CLIENT → octets ≢ []
@@ -19,13 +26,56 @@ client_is_some octets client empty =
     let none : mode_of octets ≡ mode_of [] = ap mode_of empty in
     absurd (omega (arith, client, none))
 
+-- nor that of a control message
+control_is_some : (octets : List ℕ) → mode_of octets ≡ MODE_CONTROL → octets ≢ []
+control_is_some octets control empty =
+    let none : mode_of octets ≡ mode_of [] = ap mode_of empty in
+    absurd (omega (arith, control, none))
+
+-- a datagram has one mode
+not_both : (octets : List ℕ) → mode_of octets ≡ MODE_CLIENT → ¬ (mode_of octets ≡ MODE_CONTROL)
+not_both octets client control = absurd (omega (arith, client, control))
+
+-- what is empty is that and nothing else
+pub only_empty : (octets : List ℕ) (from : Addr) → octets ≡ [] → (class : Class) → IsClass octets from class → Silent (Packet 1) ≡ class
+only_empty octets from empty (Silent (Packet number)) (inl is) = ap (λ n. Silent (Packet n)) (sym is.1)
+only_empty octets from empty (Silent (Packet number)) (inr refused) = absurd (client_is_some octets refused.0 empty)
+only_empty octets from empty (Silent (Trailer number)) long = absurd (client_is_some octets long.0.1.client empty)
+only_empty octets from empty (Silent (Frame number)) refused = absurd (control_is_some octets refused.0 empty)
+only_empty octets from empty (Silent (Unserved mode)) unserved = absurd (unserved.0 empty)
+only_empty octets from empty (Silent NotRequest) answer = absurd (control_is_some octets (frame_mode octets answer.0 answer.1) empty)
+only_empty octets from empty (Time ask) request = absurd (client_is_some octets request.1.client empty)
+only_empty octets from empty (Look asked) look = absurd (control_is_some octets (frame_mode octets look.0 look.1.frame) empty)
+
 -- what is of another mode is that and nothing else
-pub only_unserved : (octets : List ℕ) (from : Addr) (mode : ℕ) → octets ≢ [] → mode ≡ mode_of octets → mode ≢ MODE_CLIENT → (class : Class) → IsClass octets from class → Silent (Unserved mode) ≡ class
-only_unserved octets from mode some is other (Silent (Packet number)) (inl empty) = absurd (some empty.0)
-only_unserved octets from mode some is other (Silent (Packet number)) (inr short) = absurd (other (is ∙ short.0))
-only_unserved octets from mode some is other (Silent (Trailer number)) long = absurd (other (is ∙ long.0.1.client))
-only_unserved octets from mode some is other (Silent (Unserved its)) unserved = ap (λ m. Silent (Unserved m)) (is ∙ sym unserved.1)
-only_unserved octets from mode some is other (Time ask) request = absurd (other (is ∙ request.1.client))
+pub only_unserved : (octets : List ℕ) (from : Addr) (mode : ℕ) → octets ≢ [] → mode ≡ mode_of octets → mode ≢ MODE_CLIENT → mode ≢ MODE_CONTROL
+    → (class : Class) → IsClass octets from class → Silent (Unserved mode) ≡ class
+only_unserved octets from mode some is other no_control (Silent (Packet number)) (inl empty) = absurd (some empty.0)
+only_unserved octets from mode some is other no_control (Silent (Packet number)) (inr short) = absurd (other (is ∙ short.0))
+only_unserved octets from mode some is other no_control (Silent (Trailer number)) long = absurd (other (is ∙ long.0.1.client))
+only_unserved octets from mode some is other no_control (Silent (Frame number)) refused = absurd (no_control (is ∙ refused.0))
+only_unserved octets from mode some is other no_control (Silent (Unserved its)) unserved = ap (λ m. Silent (Unserved m)) (is ∙ sym unserved.1)
+only_unserved octets from mode some is other no_control (Silent NotRequest) answer = absurd (no_control (is ∙ frame_mode octets answer.0 answer.1))
+only_unserved octets from mode some is other no_control (Time ask) request = absurd (other (is ∙ request.1.client))
+only_unserved octets from mode some is other no_control (Look asked) look = absurd (no_control (is ∙ frame_mode octets look.0 look.1.frame))
+
+-- a class of a client's packet: what is refused, what is too long, or a request for the time
+abbrev IsClientClass : List ℕ → Addr → Class → Type 0
+IsClientClass octets from class =
+    ((fault : PacketFault) × (fault_of octets ≡ Some fault) × (class ≡ Silent (Packet (packet_number fault))))
+    ⊎ (((h : Header) × IsPacket octets h × (HEADER_LEN < length octets) × (class ≡ Silent (Trailer 4)))
+    ⊎ ((h : Header) × (ask : Ask) × IsPacket octets h × (length octets ≡ HEADER_LEN) × IsAskOf h from ask × (class ≡ Time ask)))
+
+-- a client's packet has one of these
+client_class : (octets : List ℕ) (from : Addr) → mode_of octets ≡ MODE_CLIENT → (class : Class) → IsClass octets from class → IsClientClass octets from class
+client_class octets from client (Silent (Packet number)) (inl empty) = absurd (client_is_some octets client empty.0)
+client_class octets from client (Silent (Packet number)) (inr (_, (fault, refused, is))) = inl (fault, refused, ap (λ n. Silent (Packet n)) is)
+client_class octets from client (Silent (Trailer number)) ((h, packet), long, is) = inr (inl (h, packet.packet, long, ap (λ n. Silent (Trailer n)) is))
+client_class octets from client (Silent (Frame number)) refused = absurd (not_both octets client refused.0)
+client_class octets from client (Silent (Unserved mode)) unserved = absurd (unserved.2 (unserved.1 ∙ client))
+client_class octets from client (Silent NotRequest) answer = absurd (not_both octets client (frame_mode octets answer.0 answer.1))
+client_class octets from client (Time ask) (h, packet, alone, is) = inr (inr (h, ask, packet.packet, alone, is, refl))
+client_class octets from client (Look asked) look = absurd (not_both octets client (frame_mode octets look.0 look.1.frame))
 
 -- an ask by its parts
 abbrev ask_of : (from : Addr) (version : ℕ) (poll : ℤ) (transmit : Ntp64) → 1 ≤ version → version ≤ 4 → Ask
@@ -50,16 +100,82 @@ ask_same h from a b first second =
     ∙ ap (λ (t : Ntp64). ask_of b.from a.version b.poll t a.version_least a.version_most) transmit_is
     ∙ same_but_for_proofs b.from a.version b.version b.poll b.transmit version_is a.version_least a.version_most b.version_least b.version_most
 
+-- what is refused as a packet is that and nothing else
+pub only_packet : (octets : List ℕ) (from : Addr) (fault : PacketFault) (number : ℕ) → number ≡ packet_number fault → mode_of octets ≡ MODE_CLIENT → fault_of octets ≡ Some fault → ((h : Header) → ¬ IsPacket octets h)
+    → (class : Class) → IsClass octets from class → Silent (Packet number) ≡ class
+only_packet octets from fault number is_number client refused none class is = by_class (client_class octets from client class is)
+  where
+    by_class : IsClientClass octets from class → Silent (Packet number) ≡ class
+    by_class (inl (other, other_refused, its)) =
+        let faults : Some fault ≡ Some other = sym refused ∙ other_refused in
+        let same : fault ≡ other = cc in
+        ap (λ n. Silent (Packet n)) (is_number ∙ ap (λ (f : PacketFault). packet_number f) same) ∙ sym its
+    by_class (inr (inl (h, packet, _, _))) = absurd (none h packet)
+    by_class (inr (inr (h, _, packet, _, _, _))) = absurd (none h packet)
+
+-- what has more than a header is that and nothing else
+pub only_trailer : (octets : List ℕ) (from : Addr) → mode_of octets ≡ MODE_CLIENT → fault_of octets ≡ None → HEADER_LEN < length octets
+    → (class : Class) → IsClass octets from class → Silent (Trailer 4) ≡ class
+only_trailer octets from client good long class is = by_class (client_class octets from client class is)
+  where
+    by_class : IsClientClass octets from class → Silent (Trailer 4) ≡ class
+    by_class (inl (fault, refused, _)) = absurd (cc (good, refused))
+    by_class (inr (inl (_, _, _, its))) = sym its
+    by_class (inr (inr (_, _, _, alone, _, _))) = absurd (omega (arith, long, alone))
+
 -- what is read as a client's header alone is that request and nothing else
 pub only_time : (octets : List ℕ) (from : Addr) (h : Header) (ask : Ask) → ((other : Header) → IsPacket octets other → h ≡ other) → fault_of octets ≡ None → mode_of octets ≡ MODE_CLIENT → length octets ≤ HEADER_LEN → IsAskOf h from ask → (class : Class) → IsClass octets from class → Time ask ≡ class
-only_time octets from h ask one good client short is (Silent (Packet number)) (inl empty) = absurd (client_is_some octets client empty.0)
-only_time octets from h ask one good client short is (Silent (Packet number)) (inr refused) = absurd (cc (good, refused.1.1))
-only_time octets from h ask one good client short is (Silent (Trailer number)) long = absurd (omega (arith, long.1))
-only_time octets from h ask one good client short is (Silent (Unserved mode)) unserved = absurd (unserved.2 (unserved.1 ∙ client))
-only_time octets from h ask one good client short is (Time other) request =
-    let same : h ≡ request.0 = one request.0 request.1.packet in
-    ap Time (ask_same h from ask other is (subst (λ (k : Header). IsAskOf k from other) (sym same) request.3))
+only_time octets from h ask one good client short is class is_class = by_class (client_class octets from client class is_class)
+  where
+    by_class : IsClientClass octets from class → Time ask ≡ class
+    by_class (inl (fault, refused, _)) = absurd (cc (good, refused))
+    by_class (inr (inl (_, _, long, _))) = absurd (omega (arith, short, long))
+    by_class (inr (inr (k, other, packet, _, is_other, its))) =
+        let same : h ≡ k = one k packet in
+        ap Time (ask_same h from ask other is (subst (λ (g : Header). IsAskOf g from other) (sym same) is_other)) ∙ sym its
+
+-- a class of a control message: what is refused, what is no request, or what it asks for
+abbrev IsControlClass : List ℕ → Addr → Class → Type 0
+IsControlClass octets from class =
+    ((fault : FrameFault) × (frame_fault_of octets ≡ Some fault) × (class ≡ Silent (Frame (frame_number fault))))
+    ⊎ (((f : FrameParts) × IsFrame octets f × (has_answer_bit f ≡ true) × (class ≡ Silent NotRequest))
+    ⊎ ((f : FrameParts) × (asked : Asked) × IsRequest octets f × IsAskedOf f from asked × (class ≡ Look asked)))
+
+-- a control message has one of these
+control_class : (octets : List ℕ) (from : Addr) → mode_of octets ≡ MODE_CONTROL → (class : Class) → IsClass octets from class → IsControlClass octets from class
+control_class octets from control (Silent (Packet number)) (inl empty) = absurd (control_is_some octets control empty.0)
+control_class octets from control (Silent (Packet number)) (inr refused) = absurd (not_both octets refused.0 control)
+control_class octets from control (Silent (Trailer number)) long = absurd (not_both octets long.0.1.client control)
+control_class octets from control (Silent (Frame number)) (_, (fault, refused, is)) = inl (fault, refused, ap (λ n. Silent (Frame n)) is)
+control_class octets from control (Silent (Unserved mode)) unserved = absurd (unserved.3 (unserved.1 ∙ control))
+control_class octets from control (Silent NotRequest) (f, frame, answer) = inr (inl (f, frame, answer, refl))
+control_class octets from control (Time ask) request = absurd (not_both octets request.1.client control)
+control_class octets from control (Look asked) (f, request, is) = inr (inr (f, asked, request, is, refl))
+
+-- what is a request is that and nothing else
+pub only_look : (octets : List ℕ) (from : Addr) (f : FrameParts) (asked : Asked) → mode_of octets ≡ MODE_CONTROL → frame_fault_of octets ≡ None → ((other : FrameParts) → IsFrame octets other → f ≡ other) → has_answer_bit f ≡ false
+    → ((other : Asked) → IsAskedOf f from other → asked ≡ other)
+    → (class : Class) → IsClass octets from class → Look asked ≡ class
+only_look octets from f asked control good one request one_asked class is = by_class (control_class octets from control class is)
+  where
+    by_class : IsControlClass octets from class → Look asked ≡ class
+    by_class (inl (fault, refused, _)) = absurd (cc (good, refused))
+    by_class (inr (inl (g, frame, answer, _))) =
+        let same : f ≡ g = one g frame in
+        let set : has_answer_bit f ≡ true = ap (λ (h : FrameParts). has_answer_bit h) same ∙ answer in
+        absurd (cc (request, set))
+    by_class (inr (inr (g, other, other_request, is_other, its))) =
+        let same : f ≡ g = one g other_request.frame in
+        ap Look (one_asked other (subst (λ (h : FrameParts). IsAskedOf h from other) (sym same) is_other)) ∙ sym its
 
 -- a test of emptiness that fails says that there is something
 pub not_empty : (octets : List ℕ) (answer : Bool) → answer ≡ (length octets == 0) → answer ≡ false → octets ≢ []
 not_empty octets answer is fails empty = absurd (cc (is, fails, ap (λ (xs : List ℕ). length xs == 0) empty))
+
+-- a test of emptiness that succeeds says that there is nothing
+pub empty : (octets : List ℕ) (answer : Bool) → answer ≡ (length octets == 0) → answer ≡ true → octets ≡ []
+empty [] answer is holds = refl
+empty (octet ∷ octets) answer is holds = absurd (omega (arith, none (length (octet ∷ octets)) (sym is ∙ holds)))
+  where
+    none : (n : ℕ) → (n == 0) ≡ true → n ≡ 0
+    none n e = grind (arith, nat_tests)

@@ -1,2 +1,3 @@
 pub mod ClassLemmas
+pub mod ControlLemmas
 pub mod ReplyLemmas

@@ -1,17 +1,20 @@
--- What a datagram asks for: packets by RFC 5905, section 7.3; the order of the tests is our own rule.
-use Rattle.std.specs.Prelude.{◌≡◌, ◌≢◌, ◌⊎◌, ◌<◌, ℕ, List, [], length, Some}
+-- What a datagram asks for: packets by RFC 5905, section 7.3, control messages by RFC 9327, section 2; the order of the tests is our own rule.
+use Rattle.std.specs.Prelude.{◌≡◌, ◌≢◌, ◌⊎◌, ◌<◌, ℕ, true, List, [], length, Some}
 use Rattle.net_addr.specs.declared.addr.Addr.{Addr}
 use Rattle.ntp_packet.specs.declared.packet.Header.{Header}
 use Rattle.ntp_packet.specs.declared.packet.PacketFault.{PacketFault}
 use Rattle.ntp_packet.specs.declared.packet.PacketFault.TheVariants.{Short, BadVersion, BadMode}
 use Rattle.ntp_packet.specs.declared.packet.TheConstants.{HEADER_LEN}
 use Rattle.ntp_packet.specs.Packet.{IsPacket, fault_of, mode_of}
-use Rattle.server_core.specs.declared.class.TheConstants.{MODE_CLIENT}
+use Rattle.mode6_frame.specs.declared.message.FrameFault.{FrameFault}
+use Rattle.mode6_frame.specs.Frames.{FrameParts, IsFrame, frame_fault_of}
+use Rattle.server_core.specs.declared.class.TheConstants.{MODE_CLIENT, MODE_CONTROL}
 use Rattle.server_core.specs.declared.class.Ask.{Ask}
 use Rattle.server_core.specs.declared.class.Class.{Class}
-use Rattle.server_core.specs.declared.class.Class.TheVariants.{Silent, Time}
+use Rattle.server_core.specs.declared.class.Class.TheVariants.{Silent, Time, Look}
 use Rattle.server_core.specs.declared.class.Unheard.{Unheard}
-use Rattle.server_core.specs.declared.class.Unheard.TheVariants.{Packet, Trailer, Unserved}
+use Rattle.server_core.specs.declared.class.Unheard.TheVariants.{Packet, Trailer, Frame, Unserved, NotRequest}
+use Rattle.server_core.specs.Control.{IsLook, frame_number, has_answer_bit}
 
 -- the number of a packet's fault, in the order of the tests
 abbrev pub packet_number : PacketFault → ℕ
@@ -44,9 +47,15 @@ IsUnheard octets (Packet number) =
     × ((fault : PacketFault) × (fault_of octets ≡ Some fault) × (number ≡ packet_number fault)))
 IsUnheard octets (Trailer number) =
     ((h : Header) × IsClientPacket octets h) × (HEADER_LEN < length octets) × (number ≡ 4)
-IsUnheard octets (Unserved mode) = (octets ≢ []) × (mode ≡ mode_of octets) × (mode ≢ MODE_CLIENT)
+IsUnheard octets (Frame number) =
+    (mode_of octets ≡ MODE_CONTROL)
+    × ((fault : FrameFault) × (frame_fault_of octets ≡ Some fault) × (number ≡ frame_number fault))
+IsUnheard octets (Unserved mode) =
+    (octets ≢ []) × (mode ≡ mode_of octets) × (mode ≢ MODE_CLIENT) × (mode ≢ MODE_CONTROL)
+IsUnheard octets NotRequest = (f : FrameParts) × IsFrame octets f × (has_answer_bit f ≡ true)
 
 -- what a datagram from this address asks for
 abbrev pub IsClass : List ℕ → Addr → Class → Type 0
 IsClass octets from (Silent why) = IsUnheard octets why
 IsClass octets from (Time ask) = IsTimeRequest octets from ask
+IsClass octets from (Look asked) = IsLook octets from asked

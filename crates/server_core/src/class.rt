@@ -1,11 +1,14 @@
-ghost use Rattle.std.specs.Prelude.{◌≡◌, ◌≤◌, ◌<◌, length};
-ghost use Rattle.ntp_packet.specs.Packet.{IsPacket, mode_of};
+ghost use Rattle.std.specs.Prelude.{◌≤◌};
 
 use fixed_time::Ntp64;
 use net_addr::Addr;
+use sys_vars::Asked;
 
 /// The mode of a client's request (RFC 5905, section 7.3, figure 10).
 pub const MODE_CLIENT: u8 = 3;
+
+/// The mode of a control message (RFC 9327, section 2).
+pub const MODE_CONTROL: u8 = 6;
 
 /// What a client's request for the time says that its reply depends on.
 #[derive(Clone, Copy, Debug, PartialEq, Eq)]
@@ -29,15 +32,22 @@ pub enum Unheard {
     Packet(u8),
     /// What follows its header is refused: 4 it is no MAC.
     Trailer(u8),
+    /// It is no control message: 1 it is too short, 2 its version is not served, 3 its mode is
+    /// another, 4 its count is too large.
+    Frame(u8),
     /// It is of this mode, which is not served.
     Unserved(u8),
+    /// It is a control message with the response, the error or the more bit.
+    NotRequest,
 }
 
 /// What a datagram asks for.
-#[derive(Clone, Copy, Debug, PartialEq, Eq)]
+#[derive(Drop)]
 pub enum Class {
     /// Nothing that is answered.
     Silent(Unheard),
     /// The time.
     Time(Ask),
+    /// What a control message may ask for.
+    Look(Asked),
 }

@@ -1,25 +1,30 @@
-ghost use Rattle.std.specs.Prelude.{◌≡◌, ◌≢◌, ◌≤◌, ◌<◌, length, []};
+ghost use Rattle.std.specs.Prelude.{◌≡◌, ◌≢◌, ◌≤◌, ◌<◌, length, [], IfOk, IfErr};
 ghost use Rattle.ntp_packet.specs.Packet.{IsPacket, mode_of};
 ghost use Rattle.server_core.specs.declared.class.Class.{Class};
 ghost use Rattle.server_core.specs.Class.{IsClass, IsAskOf, packet_number};
+ghost use Rattle.server_core.specs.Control.{IsReadRequest};
 
-use crate::class::{Ask, Class, MODE_CLIENT, Unheard};
+use crate::class::{Ask, Class, MODE_CLIENT, MODE_CONTROL, Unheard};
+use crate::control::classify_control;
 use net_addr::Addr;
 use ntp_packet::{HEADER_LEN, Header, PacketFault};
+use std::alloc::{AllocError, Global};
 
-/// What a datagram from this address asks for.
-pub fn classify(bytes: &[u8], from: &Addr) -> Class
-    ensures found { IsClass bytes.now from.now result }
-    ensures only { (class : Class) → IsClass bytes.now from.now class → result ≡ class }
+/// What a datagram from this address asks for. Memory is taken for a request to read variables
+/// alone.
+pub fn classify(alloc: Global, bytes: &[u8], from: &Addr) -> Result<Class, AllocError>
+    ensures found { IfOk result (λ class. IsClass bytes.now from.now class) }
+    ensures only { (class : Class) → IsClass bytes.now from.now class
+        → IfOk result (λ it. it ≡ class) }
+    ensures no_memory { IfErr result (λ _. IsReadRequest bytes.now) }
 {
     if bytes.is_empty() {
-        return Class::Silent(Unheard::Packet(1));
+        return Ok(Class::Silent(Unheard::Packet(1)));
     }
-    let mode = mode_in(bytes);
-    if mode == MODE_CLIENT {
-        classify_client(bytes, from)
-    } else {
-        Class::Silent(Unheard::Unserved(mode))
+    match mode_in(bytes) {
+        MODE_CLIENT => Ok(classify_client(bytes, from)),
+        MODE_CONTROL => classify_control(alloc, bytes, from),
+        mode => Ok(Class::Silent(Unheard::Unserved(mode))),
     }
 }
 

@@ -1,7 +1,10 @@
-use Rattle.server_core.proofs.ClassLemmas.{only_unserved, not_empty}
+use Rattle.std.proofs.Common.{arith}
+use Rattle.server_core.proofs.ClassLemmas.{empty, only_empty, only_unserved, not_empty}
 use Rattle.server_core.proofs.classing.classify.Goals as goal
 
-pub returns-else-mode-eq-MODE_CLIENT-clause-only :
-    goal.returns-else-mode-eq-MODE_CLIENT-clause-only
-returns-else-mode-eq-MODE_CLIENT-clause-only c =
-    only_unserved _ _ _ (not_empty _ _ c.is_empty.ensures c.if-is_empty.false) c.mode_in-mode.ensures c.if-mode-eq-MODE_CLIENT.false
+pub returns-then-is_empty-clause-only : goal.returns-then-is_empty-clause-only
+returns-then-is_empty-clause-only c = only_empty _ _ (empty _ _ c.is_empty.ensures c.if-is_empty.true)
+
+pub returns-in_default-clause-only : goal.returns-in_default-clause-only
+returns-in_default-clause-only c =
+    only_unserved _ _ _ (not_empty _ _ c.is_empty.ensures c.if-is_empty.false) c.mode_in.ensures (λ e. omega (arith, e)) (λ e. omega (arith, e))

@@ -1,0 +1,187 @@
+-- A control message asks for one thing, and names no more variables than have room.
+use Rattle.std.proofs.Common.{◌≡◌, ◌≢◌, ◌≤◌, ◌<◌, ◌+◌, ◌*◌, ◌⊎◌, ℕ, zero, suc, List, [], ◌∷◌, ◌++◌, length, take, slice_index, slice_index_or, Ok, refl, sym, ap, subst, ◌∙◌, inl, inr, arith, length-append, length-take}
+use Rattle.std.proofs.lemmas.Bool.{cases_lt}
+use Rattle.std.proofs.lemmas.List.{take_more, take_all, get_or-take}
+use Rattle.std.proofs.Math.Bridge.{le_prop}
+use Rattle.std.specs.List.{AllByRecursion}
+use Rattle.net_addr.specs.declared.addr.Addr.{Addr}
+use Rattle.mode6_frame.specs.declared.items.Item.{Item}
+use Rattle.mode6_frame.specs.declared.message.TheConstants.{HEAD_LEN}
+use Rattle.mode6_frame.specs.declared.message.Head.{Head}
+use Rattle.mode6_frame.specs.Frames.{FrameParts, FitsFrame, IsFrame, head_of, first_octet_of, mode_of}
+use Rattle.mode6_frame.specs.Items.{Slot, Blank, Named, IsSlot, slot_octets, slot_items, closed_octets, items_of, comma, IsItemText, IsUnlessNoMemory}
+use Rattle.mode6_frame.specs.Refusals.{IsRefusedAt, refused_nowhere}
+use Rattle.sys_vars.specs.declared.asked.TheConstants.{MAX_NAMES}
+use Rattle.sys_vars.specs.declared.asked.Asked.{Asked}
+use Rattle.sys_vars.specs.declared.asked.What.{What}
+use Rattle.sys_vars.specs.declared.asked.What.TheVariants.{Vars, Bad}
+use Rattle.sys_vars.specs.declared.names.TheConstants.{UNKNOWN_NAME}
+use Rattle.server_core.specs.declared.class.TheConstants.{MODE_CONTROL}
+use Rattle.server_core.specs.declared.control.TheConstants.{READ_VARIABLES, BAD_FORMAT, BAD_OPERATION}
+use Rattle.server_core.specs.Control.{IsNumberOf, IsNumberAsked, AreNumbersAsked, IsWhat, IsHeadOf, IsAskedOf}
+
+-- a slot has two octets for each of its items, if its comma is counted
+slot_room : (slot : Slot) → IsSlot slot → 2 * length (slot_items slot) ≤ length (slot_octets slot) + 1
+slot_room (Blank white) is = omega arith
+slot_room (Named before name behind) is =
+    omega (arith, is.1, length-append (before ++ name) behind, length-append before name)
+
+-- and so have slots that commas end
+closed_room : (closed : List Slot) → AllByRecursion IsSlot closed → 2 * length (items_of closed) ≤ length (closed_octets closed)
+closed_room [] are = omega arith
+closed_room (slot ∷ closed) are =
+    omega (arith, slot_room slot are.0, closed_room closed are.1, length-append (slot_octets slot) (comma ∷ closed_octets closed), length-append (slot_items slot) (items_of closed))
+
+-- a text names no more items than it has room for: an octet each, and a comma between two
+pub item_room : (text : List ℕ) (items : List Item) → IsItemText text items → 2 * length items ≤ length text + 1
+item_room text items is =
+    let spelled : length text ≡ length (closed_octets is.closed) + length (slot_octets is.last) = ap length is.spelled ∙ length-append (closed_octets is.closed) (slot_octets is.last) in
+    let named : length items ≡ length (items_of is.closed) + length (slot_items is.last) = ap length is.named ∙ length-append (items_of is.closed) (slot_items is.last) in
+    omega (arith, spelled, named, closed_room is.closed is.closed_slots, slot_room is.last is.last_slot)
+
+-- one more item, and one more number
+pub AreNumbersAsked-push : (assoc : ℕ) (items : List Item) (numbers : List ℕ) (item : Item) (number : ℕ) → AreNumbersAsked assoc items numbers → IsNumberAsked assoc item.name number
+    → AreNumbersAsked assoc (items ++ item ∷ []) (numbers ++ number ∷ [])
+AreNumbersAsked-push assoc [] [] item number are one = (one, tt)
+AreNumbersAsked-push assoc [] (n ∷ numbers) item number are one = absurd are
+AreNumbersAsked-push assoc (i ∷ items) [] item number are one = absurd are
+AreNumbersAsked-push assoc (i ∷ items) (n ∷ numbers) item number are one = (are.0, AreNumbersAsked-push assoc items numbers item number are.1 one)
+
+-- there are as many numbers as items
+pub AreNumbersAsked-length : (assoc : ℕ) (items : List Item) (numbers : List ℕ) → AreNumbersAsked assoc items numbers → length items ≡ length numbers
+AreNumbersAsked-length assoc [] [] are = refl
+AreNumbersAsked-length assoc [] (n ∷ numbers) are = absurd are
+AreNumbersAsked-length assoc (i ∷ items) [] are = absurd are
+AreNumbersAsked-length assoc (i ∷ items) (n ∷ numbers) are = ap suc (AreNumbersAsked-length assoc items numbers are.1)
+
+-- a number is that of no name, or another
+unknown_or_known : (number : ℕ) → (number ≡ UNKNOWN_NAME) ⊎ (number ≢ UNKNOWN_NAME)
+unknown_or_known number = from_order (cases_lt number UNKNOWN_NAME) (cases_lt UNKNOWN_NAME number)
+  where
+    from_order : (number < UNKNOWN_NAME) ⊎ (UNKNOWN_NAME ≤ number) → (UNKNOWN_NAME < number) ⊎ (number ≤ UNKNOWN_NAME) → (number ≡ UNKNOWN_NAME) ⊎ (number ≢ UNKNOWN_NAME)
+    from_order (inl below) above = inr (λ e. omega (arith, below, e))
+    from_order (inr not_below) (inl above) = inr (λ e. omega (arith, above, e))
+    from_order (inr not_below) (inr not_above) = inl (omega (arith, not_below, not_above))
+
+-- a name has one number
+number_same : (name : List ℕ) (m n : ℕ) → IsNumberOf name m → IsNumberOf name n → m ≡ n
+number_same name m n first second = by_cases (unknown_or_known m) (unknown_or_known n)
+  where
+    by_cases : (m ≡ UNKNOWN_NAME) ⊎ (m ≢ UNKNOWN_NAME) → (n ≡ UNKNOWN_NAME) ⊎ (n ≢ UNKNOWN_NAME) → m ≡ n
+    by_cases any (inr known) = first.only n (second.known known)
+    by_cases (inr known) (inl none) = sym (second.only m (first.known known))
+    by_cases (inl none) (inl none_too) = none ∙ sym none_too
+
+-- and is asked for by one
+asked_same : (assoc : ℕ) (name : List ℕ) (m n : ℕ) → IsNumberAsked assoc name m → IsNumberAsked assoc name n → m ≡ n
+asked_same zero name m n first second = number_same name m n (first.system refl) (second.system refl)
+asked_same (suc k) name m n first second = first.other (omega arith) ∙ sym (second.other (omega arith))
+
+-- names have one list of numbers
+pub numbers_same : (assoc : ℕ) (items : List Item) (ms ns : List ℕ) → AreNumbersAsked assoc items ms → AreNumbersAsked assoc items ns → ms ≡ ns
+numbers_same assoc [] [] [] first second = refl
+numbers_same assoc [] [] (n ∷ ns) first second = absurd second
+numbers_same assoc [] (m ∷ ms) ns first second = absurd first
+numbers_same assoc (i ∷ items) [] ns first second = absurd first
+numbers_same assoc (i ∷ items) (m ∷ ms) [] first second = absurd second
+numbers_same assoc (i ∷ items) (m ∷ ms) (n ∷ ns) first second =
+    let head = asked_same assoc i.name m n first.0 second.0 in
+    let tail = numbers_same assoc items ms ns first.1 second.1 in
+    cc
+
+-- one more turn over the items
+pub AreNumbersAsked-more : (assoc : ℕ) (items : List Item) (numbers : List ℕ) (i : ℕ) (item : Item) (number : ℕ) → i < length items → item ≡ slice_index_or items i item
+    → AreNumbersAsked assoc (take i items) numbers → IsNumberAsked assoc item.name number → AreNumbersAsked assoc (take (i + 1) items) (numbers ++ number ∷ [])
+AreNumbersAsked-more assoc items numbers i item number within is are one =
+    let further : take (i + 1) items ≡ take i items ++ item ∷ [] = take_more items i item within ∙ ap (λ last. take i items ++ last ∷ []) (sym is) in
+    subst (λ (all : List Item). AreNumbersAsked assoc all (numbers ++ number ∷ [])) (sym further) (AreNumbersAsked-push assoc (take i items) numbers item number are one)
+
+-- there are no more numbers than a request has room for
+pub numbers_room : (assoc : ℕ) (items : List Item) (numbers : List ℕ) (i : ℕ) → length items ≤ MAX_NAMES → AreNumbersAsked assoc (take i items) numbers → length numbers ≤ MAX_NAMES
+numbers_room assoc items numbers i room are = omega (arith, AreNumbersAsked-length assoc (take i items) numbers are, length-take i items)
+
+-- where every item has its number, they all have
+pub AreNumbersAsked-whole : (assoc : ℕ) (items : List Item) (numbers : List ℕ) (i : ℕ) → length items ≤ i → AreNumbersAsked assoc (take i items) numbers → AreNumbersAsked assoc items numbers
+AreNumbersAsked-whole assoc items numbers i all are =
+    subst (λ (front : List Item). AreNumbersAsked assoc front numbers) (take_all i items all) are
+
+-- a body names no more items than a request has room for
+pub names_room : (f : FrameParts) (items : List Item) → FitsFrame f → IsItemText f.body items → length items ≤ MAX_NAMES
+names_room f items fits is = omega (arith, item_room f.body items is, fits.body)
+
+-- where items are read, they are the ones, whatever memory is wanting for
+pub unless_no_memory : (items others : List Item) → IsUnlessNoMemory (Ok items) (Ok others) → items ≡ others
+unless_no_memory items others (inl same) = cc
+unless_no_memory items others (inr wanting) = absurd cc
+
+-- a request whose body is a text of items asks for their numbers and nothing else
+pub only_variables : (f : FrameParts) (items : List Item) (numbers : List ℕ) → f.opcode ≡ READ_VARIABLES → IsItemText f.body items
+    → ((others : List Item) → IsItemText f.body others → items ≡ others) → AreNumbersAsked f.assoc items numbers
+    → (what : What) → IsWhat f what → Vars numbers ≡ what
+only_variables f items numbers reads text one are (Vars its) (_, (others, other_text, other_are)) =
+    let same = one others other_text in
+    ap Vars (numbers_same f.assoc items numbers its are (subst (λ (all : List Item). AreNumbersAsked f.assoc all its) (sym same) other_are))
+only_variables f items numbers reads text one are (Bad code) (inl (_, (place, refused), _)) = absurd (refused_nowhere IsItemText f.body items place text refused)
+only_variables f items numbers reads text one are (Bad code) (inr (other, _)) = absurd (other reads)
+
+-- a request whose body is none is refused so and not otherwise
+pub only_bad_format : (f : FrameParts) (place : ℕ) → f.opcode ≡ READ_VARIABLES → IsRefusedAt IsItemText f.body place
+    → (what : What) → IsWhat f what → Bad BAD_FORMAT ≡ what
+only_bad_format f place reads refused (Vars its) (_, (items, text, _)) = absurd (refused_nowhere IsItemText f.body items place text refused)
+only_bad_format f place reads refused (Bad code) (inl (_, _, is)) = ap Bad (sym is)
+only_bad_format f place reads refused (Bad code) (inr (other, _)) = absurd (other reads)
+
+-- nor a request of another operation
+pub only_bad_operation : (f : FrameParts) → f.opcode ≢ READ_VARIABLES → (what : What) → IsWhat f what → Bad BAD_OPERATION ≡ what
+only_bad_operation f other (Vars its) is = absurd (other is.0)
+only_bad_operation f other (Bad code) (inl is) = absurd (other is.0)
+only_bad_operation f other (Bad code) (inr (_, is)) = ap Bad (sym is)
+
+-- a head by its parts
+abbrev head_of_parts : (version opcode sequence status assoc : ℕ) → version ≤ 7 → opcode ≤ 31 → Head
+head_of_parts version opcode sequence status assoc version_in opcode_in =
+    record { version = version; opcode = opcode; sequence = sequence; status = status; assoc = assoc; version_in = version_in; opcode_in = opcode_in }
+
+-- heads of one version and operation are equal where their other parts are
+same_but_for_proofs : (v w o p sequence status assoc : ℕ) → v ≡ w → o ≡ p → (v_in : v ≤ 7) (w_in : w ≤ 7) (o_in : o ≤ 31) (p_in : p ≤ 31)
+    → head_of_parts v o sequence status assoc v_in o_in ≡ head_of_parts w p sequence status assoc w_in p_in
+same_but_for_proofs v w o p sequence status assoc versions opcodes v_in =
+    subst (λ (x : ℕ). (x_in : x ≤ 7) (o_in : o ≤ 31) (p_in : p ≤ 31) → head_of_parts v o sequence status assoc v_in o_in ≡ head_of_parts x p sequence status assoc x_in p_in) versions
+    (λ x_in. subst (λ (y : ℕ). (o_in : o ≤ 31) (y_in : y ≤ 31) → head_of_parts v o sequence status assoc v_in o_in ≡ head_of_parts v y sequence status assoc x_in y_in) opcodes
+    (λ o_in y_in.
+    ap (λ (q : v ≤ 7). head_of_parts v o sequence status assoc q o_in) (le_prop v_in x_in)
+    ∙ ap (λ (q : o ≤ 31). head_of_parts v o sequence status assoc x_in q) (le_prop o_in y_in)))
+
+-- a request has one head
+head_same : (f : FrameParts) (a b : Head) → IsHeadOf f a → IsHeadOf f b → a ≡ b
+head_same f a b first second =
+    let sequence_is : a.sequence ≡ b.sequence = first.sequence ∙ sym second.sequence in
+    let status_is : a.status ≡ b.status = first.status ∙ sym second.status in
+    let assoc_is : a.assoc ≡ b.assoc = first.assoc ∙ sym second.assoc in
+    ap (λ (n : ℕ). head_of_parts a.version a.opcode n a.status a.assoc a.version_in a.opcode_in) sequence_is
+    ∙ ap (λ (n : ℕ). head_of_parts a.version a.opcode b.sequence n a.assoc a.version_in a.opcode_in) status_is
+    ∙ ap (λ (n : ℕ). head_of_parts a.version a.opcode b.sequence b.status n a.version_in a.opcode_in) assoc_is
+    ∙ same_but_for_proofs a.version b.version a.opcode b.opcode b.sequence b.status b.assoc
+    (first.version ∙ sym second.version) (first.opcode ∙ sym second.opcode) a.version_in b.version_in a.opcode_in b.opcode_in
+
+-- a request asks for one thing
+pub only_asked : (f : FrameParts) (from : Addr) (head : Head) (what : What) → IsHeadOf f head → ((other : What) → IsWhat f other → what ≡ other)
+    → (asked : Asked) → IsAskedOf f from asked → record { from = from; head = head; what = what } ≡ asked
+only_asked f from head what is_head one asked is =
+    let heads = head_same f head asked.head is_head is.head_is in
+    let whats = one asked.what is.what_is in
+    ap (λ (a : Addr). asked_of_parts a head what) (sym is.from_is)
+    ∙ ap (λ (h : Head). asked_of_parts asked.from h what) heads
+    ∙ ap (λ (w : What). asked_of_parts asked.from asked.head w) whats
+  where
+    asked_of_parts : Addr → Head → What → Asked
+    asked_of_parts a h w = record { from = a; head = h; what = w }
+
+-- a control message's mode is that of control messages
+pub frame_mode : (octets : List ℕ) (f : FrameParts) → IsFrame octets f → mode_of octets ≡ MODE_CONTROL
+unfolding head_of
+frame_mode octets f is =
+    let n = HEAD_LEN + length f.body in
+    let front : slice_index (take n octets) 0 ≡ slice_index octets 0 = get_or-take n octets 0 0 (omega arith) in
+    let first : slice_index (take n octets) 0 ≡ first_octet_of f = ap (λ (xs : List ℕ). slice_index xs 0) is.spelled in
+    omega (arith, front, first)

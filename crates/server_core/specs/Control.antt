@@ -1,0 +1,81 @@
+-- What a control message asks for (RFC 9327, sections 2, 3.4 and 4; what is answered by which error is our own rule).
+use Rattle.std.specs.Prelude.{◌≡◌, ◌≢◌, ◌⊎◌, ℕ, Bool, false, ◌||◌, List, [], ◌∷◌, Some}
+use Rattle.net_addr.specs.declared.addr.Addr.{Addr}
+use Rattle.mode6_frame.specs.declared.items.Item.{Item}
+use Rattle.mode6_frame.specs.declared.message.Head.{Head}
+use Rattle.mode6_frame.specs.declared.message.FrameFault.{FrameFault}
+use Rattle.mode6_frame.specs.declared.message.FrameFault.TheVariants.{Short, BadVersion, BadMode, BadCount}
+use Rattle.mode6_frame.specs.Frames.{FrameParts, IsFrame}
+use Rattle.mode6_frame.specs.Items.{IsItemText}
+use Rattle.mode6_frame.specs.Refusals.{IsRefusedAt}
+use Rattle.sys_vars.specs.declared.asked.Asked.{Asked}
+use Rattle.sys_vars.specs.declared.asked.What.{What}
+use Rattle.sys_vars.specs.declared.asked.What.TheVariants.{Vars, Bad}
+use Rattle.sys_vars.specs.declared.names.TheConstants.{UNKNOWN_NAME}
+use Rattle.sys_vars.specs.Names.{name_of}
+use Rattle.server_core.specs.declared.control.TheConstants.{READ_VARIABLES, BAD_FORMAT, BAD_OPERATION}
+
+-- the number of a control message's fault, in the order of the tests
+abbrev pub frame_number : FrameFault → ℕ
+frame_number Short = 1
+frame_number BadVersion = 2
+frame_number BadMode = 3
+frame_number BadCount = 4
+
+-- a bit is set that no request has: the response, the error or the more bit
+abbrev pub has_answer_bit : FrameParts → Bool
+has_answer_bit f = f.response || f.error || f.more
+
+-- the octets begin with a control message that is a request
+pub record IsRequest (octets : List ℕ) (f : FrameParts) : Type 0 where
+  pub frame : IsFrame octets f
+  pub no_answer : has_answer_bit f ≡ false
+
+-- the octets begin with a request to read variables
+abbrev pub IsReadRequest : List ℕ → Type 0
+IsReadRequest octets = (f : FrameParts) × IsRequest octets f × (f.opcode ≡ READ_VARIABLES)
+
+-- the number of the system variable of this name, or that of none
+pub record IsNumberOf (name : List ℕ) (number : ℕ) : Type 0 where
+  pub known : number ≢ UNKNOWN_NAME → name_of number ≡ Some name
+  pub only : (other : ℕ) → name_of other ≡ Some name → number ≡ other
+
+-- the number by which a name is asked for: association 0 is the system; another has no names yet
+pub record IsNumberAsked (assoc : ℕ) (name : List ℕ) (number : ℕ) : Type 0 where
+  pub system : assoc ≡ 0 → IsNumberOf name number
+  pub other : assoc ≢ 0 → number ≡ UNKNOWN_NAME
+
+-- the numbers by which the names of these items are asked for, in their order
+abbrev pub AreNumbersAsked : ℕ → List Item → List ℕ → Type 0
+AreNumbersAsked assoc [] [] = Unit {0}
+AreNumbersAsked assoc [] (number ∷ numbers) = ⊥
+AreNumbersAsked assoc (item ∷ items) [] = ⊥
+AreNumbersAsked assoc (item ∷ items) (number ∷ numbers) =
+    IsNumberAsked assoc item.name number × AreNumbersAsked assoc items numbers
+
+-- what a request asks for: the variables that its body names, or what is refused with an error code
+abbrev pub IsWhat : FrameParts → What → Type 0
+IsWhat f (Vars numbers) =
+    (f.opcode ≡ READ_VARIABLES)
+    × ((items : List Item) × IsItemText f.body items × AreNumbersAsked f.assoc items numbers)
+IsWhat f (Bad code) =
+    ((f.opcode ≡ READ_VARIABLES) × ((place : ℕ) × IsRefusedAt IsItemText f.body place) × (code ≡ BAD_FORMAT))
+    ⊎ ((f.opcode ≢ READ_VARIABLES) × (code ≡ BAD_OPERATION))
+
+-- what an answer repeats of a request; the status is still to be filled in
+pub record IsHeadOf (f : FrameParts) (head : Head) : Type 0 where
+  pub version : head.version ≡ f.version
+  pub opcode : head.opcode ≡ f.opcode
+  pub sequence : head.sequence ≡ f.sequence
+  pub status : head.status ≡ 0
+  pub assoc : head.assoc ≡ f.assoc
+
+-- what a request asks for, and from where
+pub record IsAskedOf (f : FrameParts) (from : Addr) (asked : Asked) : Type 0 where
+  pub from_is : asked.from ≡ from
+  pub head_is : IsHeadOf f asked.head
+  pub what_is : IsWhat f asked.what
+
+-- a control request from this address
+abbrev pub IsLook : List ℕ → Addr → Asked → Type 0
+IsLook octets from asked = (f : FrameParts) × IsRequest octets f × IsAskedOf f from asked
