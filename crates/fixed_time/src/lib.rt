@@ -11,4 +11,6 @@ pub mod time;
 
 pub use apart::{CAP, squared_apart};
 pub use root::isqrt;
-pub use time::{MAX_DISPERSION, Ntp64, PHI, Short, Span, add_raw, add_span, diff, drift, from_short, to_short};
+pub use time::{
+    MAX_DISPERSION, Ntp64, PHI, Short, Span, add_raw, add_span, diff, drift, from_short, to_short,
+};

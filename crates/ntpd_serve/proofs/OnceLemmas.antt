@@ -1,15 +1,18 @@
 -- How silences add up at a port.
-use Rattle.std.proofs.Common.{◌≡◌, ℕ, ◌+◌, Option, Some, None, List, [], ◌∷◌, ◌++◌, append_assoc, refl, sym, ap, ◌∙◌, arith}
+use Rattle.std.proofs.Common.{◌≡◌, ℕ, ◌+◌, Option, Some, None, List, [], ◌∷◌, ◌++◌, append_assoc, replicate, zero, suc, Bool, inl, inr, refl, sym, ap, ◌∙◌, arith}
 use Rattle.std.proofs.lemmas.List.{append-nil, replicate_more}
 use Rattle.fixed_time.specs.declared.time.Ntp64.{Ntp64}
 use Rattle.net_addr.specs.declared.addr.Addr.{Addr}
 use Rattle.edge_traits.specs.Told.{gained, Grows, Rose}
 use Rattle.edge_traits.proofs.ToldLemmas.{gained-gained}
 use Rattle.edge_traits.specs.declared.port.Event.{Event}
-use Rattle.edge_traits.specs.declared.port.Event.TheVariants.{Silence, Sent}
+use Rattle.edge_traits.specs.declared.port.Event.TheVariants.{Silence, Took}
+use Rattle.edge_traits.specs.declared.status.Status.{Status}
+use Rattle.ntpd_serve.specs.Ending.{Reports}
+use Rattle.ntpd_serve.specs.declared.once.TheConstants.{PATIENCE}
 use Rattle.ntpd_serve.specs.declared.ending.Ending.{Ending}
 use Rattle.ntpd_serve.specs.declared.ending.Ending.TheVariants.{Answered, Silent, Words, HostFailed, PortFailed, Quiet, Closed, NoMemory}
-use Rattle.ntpd_serve.specs.Once.{silences, reply_octets, IsAsked, Follows, GivesOne}
+use Rattle.ntpd_serve.specs.Once.{silences, IsAnswer, Follows, GivesOne, Happens, Causes, HasCome, IsServed}
 
 -- no silence yet
 pub gained-no_silence : (told : Option (List Event)) → told ≡ gained told (silences 0)
@@ -44,14 +47,43 @@ Grows-Grows None (Some between) (Some new) first second one two = absurd one
 Grows-Grows (Some old) (Some between) (Some new) first second one two =
     two ∙ ap (λ (told : List ℕ). told ++ second) one ∙ append_assoc old first second
 
--- what one give of the reply makes of a request
-pub Follows-GivesOne : (origin : Ntp64) (ending : Ending) (from : Addr) (octets reply : List ℕ) (events : List Event) (readings : List ℕ) (asked : IsAsked from octets readings) → reply ≡ reply_octets origin asked.ask asked.came asked.sent → GivesOne ending from reply events → Follows origin ending from octets events readings
-Follows-GivesOne origin (Answered count) from octets reply events readings asked is gives =
-    (asked, gives.0 ∙ ap (λ (o : List ℕ). Sent from o ∷ []) is, gives.1)
-Follows-GivesOne origin PortFailed from octets reply events readings asked is gives = (asked, gives)
-Follows-GivesOne origin NoMemory from octets reply events readings asked is gives = (asked, gives)
-Follows-GivesOne origin (Silent why) from octets reply events readings asked is gives = absurd gives
-Follows-GivesOne origin Words from octets reply events readings asked is gives = absurd gives
-Follows-GivesOne origin HostFailed from octets reply events readings asked is gives = absurd gives
-Follows-GivesOne origin Quiet from octets reply events readings asked is gives = absurd gives
-Follows-GivesOne origin Closed from octets reply events readings asked is gives = absurd gives
+-- what one give of the answer makes of a request
+pub Follows-GivesOne : (origin : Ntp64) (ending : Ending) (from : Addr) (octets answer : List ℕ) (events : List Event) (readings : List ℕ) → IsAnswer origin from octets readings answer → GivesOne ending from answer events → Follows origin ending from octets events readings
+Follows-GivesOne origin (Answered count) from octets answer events readings is gives = (answer, is, gives.0, gives.1)
+Follows-GivesOne origin PortFailed from octets answer events readings is gives = (answer, is, gives)
+Follows-GivesOne origin NoMemory from octets answer events readings is gives = gives
+Follows-GivesOne origin (Silent why) from octets answer events readings is gives = absurd gives
+Follows-GivesOne origin Words from octets answer events readings is gives = absurd gives
+Follows-GivesOne origin HostFailed from octets answer events readings is gives = absurd gives
+Follows-GivesOne origin Quiet from octets answer events readings is gives = absurd gives
+Follows-GivesOne origin Closed from octets answer events readings is gives = absurd gives
+
+-- among silences alone there is no datagram
+no_datagram : (n : ℕ) (before after : List Event) (from : Addr) (octets : List ℕ) → replicate n Silence ≡ before ++ Took from octets ∷ after → ⊥
+no_datagram zero [] after from octets same = absurd (cc same)
+no_datagram zero (event ∷ before) after from octets same = absurd (cc same)
+no_datagram (suc n) [] after from octets same = absurd (cc same)
+no_datagram (suc n) (event ∷ before) after from octets same =
+    let rest : replicate n Silence ≡ before ++ Took from octets ∷ after = cc in
+    no_datagram n before after from octets rest
+
+silences_only : (n : ℕ) (events : List Event) → events ≡ silences n → ¬ HasCome events
+unfolding silences
+silences_only n events only (before, from, octets, after, is) = no_datagram n before after from octets (sym only ∙ is)
+
+-- where a datagram came, and neither port nor sink failed, it was served
+pub IsServed-HasCome : (origin : Ntp64) (ending : Ending) (events : List Event) (readings : List ℕ) (status : Status) (faults faults' quiets quiets' : ℕ) (is_closed : Bool) (sink sink' : ℕ) (old new : Option (List ℕ)) → Happens origin ending events readings → Causes ending faults faults' quiets quiets' is_closed → Reports ending status old new → (status.0 ≡ 8 → Rose 1 sink sink') → HasCome events → ¬ Rose 1 faults faults' → ¬ Rose 1 sink sink' → IsServed status
+IsServed-HasCome origin ending events readings status faults faults' quiets quiets' is_closed sink sink' old new happens causes (inr (inl eight, front)) failed came port_well sink_well = absurd (sink_well (failed eight))
+IsServed-HasCome origin ending events readings status faults faults' quiets quiets' is_closed sink sink' old new happens causes (inr (inr nine, front)) failed came port_well sink_well = inr nine
+IsServed-HasCome origin (Answered count) events readings status faults faults' quiets quiets' is_closed sink sink' old new happens causes (inl (is, whole)) failed came port_well sink_well = inl is
+IsServed-HasCome origin (Silent why) events readings status faults faults' quiets quiets' is_closed sink sink' old new happens causes (inl (is, whole)) failed came port_well sink_well = inl is
+IsServed-HasCome origin NoMemory events readings status faults faults' quiets quiets' is_closed sink sink' old new happens causes (inl (is, whole)) failed came port_well sink_well = inr is
+IsServed-HasCome origin PortFailed events readings status faults faults' quiets quiets' is_closed sink sink' old new happens causes (inl (is, whole)) failed came port_well sink_well = absurd (port_well (causes.failed refl))
+IsServed-HasCome origin Quiet events readings status faults faults' quiets quiets' is_closed sink sink' old new (inl comes) causes (inl (is, whole)) failed came port_well sink_well = absurd comes.follows
+IsServed-HasCome origin Quiet events readings status faults faults' quiets quiets' is_closed sink sink' old new (inr (only, none)) causes (inl (is, whole)) failed came port_well sink_well = absurd (silences_only PATIENCE events only came)
+IsServed-HasCome origin Closed events readings status faults faults' quiets quiets' is_closed sink sink' old new (inl comes) causes (inl (is, whole)) failed came port_well sink_well = absurd comes.follows
+IsServed-HasCome origin Closed events readings status faults faults' quiets quiets' is_closed sink sink' old new (inr (only, none)) causes (inl (is, whole)) failed came port_well sink_well = absurd (silences_only only.0 events only.2 came)
+IsServed-HasCome origin Words events readings status faults faults' quiets quiets' is_closed sink sink' old new (inl comes) causes (inl (is, whole)) failed came port_well sink_well = absurd comes.follows
+IsServed-HasCome origin Words events readings status faults faults' quiets quiets' is_closed sink sink' old new (inr (only, none)) causes (inl (is, whole)) failed came port_well sink_well = absurd only
+IsServed-HasCome origin HostFailed events readings status faults faults' quiets quiets' is_closed sink sink' old new (inl comes) causes (inl (is, whole)) failed came port_well sink_well = absurd comes.follows
+IsServed-HasCome origin HostFailed events readings status faults faults' quiets quiets' is_closed sink sink' old new (inr (only, none)) causes (inl (is, whole)) failed came port_well sink_well = absurd only

@@ -3,7 +3,7 @@ use Rattle.std.specs.Prelude.{◌≡◌, ◌⊎◌, ℕ, Option, List, [], ◌�
 use Rattle.edge_traits.specs.Told.{gained, GainedFront}
 use Rattle.edge_traits.specs.declared.status.Status.{Status}
 use Rattle.server_core.specs.declared.class.Unheard.{Unheard}
-use Rattle.server_core.specs.declared.class.Unheard.TheVariants.{Packet, Trailer, Unserved}
+use Rattle.server_core.specs.declared.class.Unheard.TheVariants.{Packet, Trailer, Frame, Unserved, NotRequest}
 use Rattle.ntpd_serve.specs.declared.ending.Ending.{Ending}
 use Rattle.ntpd_serve.specs.declared.ending.Ending.TheVariants.{Answered, Silent, Words, HostFailed, PortFailed, Quiet, Closed, NoMemory}
 
@@ -11,7 +11,9 @@ use Rattle.ntpd_serve.specs.declared.ending.Ending.TheVariants.{Answered, Silent
 abbrev pub unheard_text : Unheard → List ℕ
 unheard_text (Packet number) = codes "packet " ++ decimal number
 unheard_text (Trailer number) = codes "trailer " ++ decimal number
+unheard_text (Frame number) = codes "frame " ++ decimal number
 unheard_text (Unserved mode) = codes "unserved " ++ decimal mode
+unheard_text NotRequest = codes "not-request"
 
 -- what is printed of an ending
 abbrev pub ending_text : Ending → List ℕ

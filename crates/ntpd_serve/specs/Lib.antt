@@ -1,3 +1,4 @@
 pub mod Ending
 pub mod Once
 pub mod Command
+pub mod Usage

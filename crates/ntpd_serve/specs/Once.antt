@@ -1,13 +1,16 @@
--- What `ntpd once` does at its port and its clock: one datagram, answered from the opening record (our own rule, over RFC 5905).
+-- What `ntpd once` does at its port and its clock: one datagram, answered from the opening record (our own rule, over RFC 5905 and RFC 9327).
 use Rattle.std.specs.Prelude.{◌≡◌, ◌⊎◌, ◌<◌, ℕ, List, [], ◌∷◌, ◌++◌, replicate, Bool, IsTrue}
 use Rattle.fixed_time.specs.declared.time.Ntp64.{Ntp64}
 use Rattle.net_addr.specs.declared.addr.Addr.{Addr}
 use Rattle.edge_traits.specs.Told.{Rose}
 use Rattle.edge_traits.specs.declared.port.Event.{Event}
+use Rattle.edge_traits.specs.declared.status.Status.{Status}
 use Rattle.edge_traits.specs.declared.port.Event.TheVariants.{Took, Silence, Sent}
 use Rattle.sys_vars.specs.Opening.{opening_record}
+use Rattle.sys_vars.specs.Answers.{gram_of}
+use Rattle.sys_vars.specs.declared.asked.Asked.{Asked}
 use Rattle.server_core.specs.declared.class.Ask.{Ask}
-use Rattle.server_core.specs.declared.class.Class.TheVariants.{Silent as NotHeard, Time}
+use Rattle.server_core.specs.declared.class.Class.TheVariants.{Silent as NotHeard, Time, Look}
 use Rattle.server_core.specs.declared.reply.Basis.{Basis}
 use Rattle.server_core.specs.Class.{IsClass}
 use Rattle.server_core.specs.Reply.{time_reply_of}
@@ -19,7 +22,7 @@ use Rattle.ntpd_serve.specs.declared.once.TheConstants.{PATIENCE}
 unfoldable pub silences : ℕ → List Event
 silences n = replicate n Silence
 
--- what each request is served from: over plain rules and an empty client list that is the opening record
+-- what each request for the time is served from: the opening record
 abbrev pub opening_basis : Ntp64 → Basis
 opening_basis origin =
     record { system = (opening_record origin).system; clock = (opening_record origin).clock }
@@ -28,23 +31,36 @@ opening_basis origin =
 abbrev pub reply_octets : Ntp64 → Ask → ℕ → ℕ → List ℕ
 reply_octets origin = time_reply_of (opening_basis origin)
 
--- a request for the time came; the clock was read when it was classed, and again before the reply
-pub record IsAsked (from : Addr) (octets : List ℕ) (readings : List ℕ) : Type 0 where
+-- the datagram asks for the time, and this is the reply of the opening record
+pub record IsTimeAnswer (origin : Ntp64) (from : Addr) (octets : List ℕ) (came sent : ℕ) (answer : List ℕ) : Type 0 where
   pub ask : Ask
+  pub class : IsClass octets from (Time ask)
+  pub reply : answer ≡ reply_octets origin ask came sent
+
+-- the datagram is a control request, and this is the answer of the opening record
+pub record IsControlAnswer (origin : Ntp64) (from : Addr) (octets : List ℕ) (answer : List ℕ) : Type 0 where
+  pub asked : Asked
+  pub class : IsClass octets from (Look asked)
+  pub given : answer ≡ gram_of (opening_record origin) asked
+
+-- The datagram is answered by this one. The clock was read when the datagram was classed, and again
+-- before the answer was given.
+pub record IsAnswer (origin : Ntp64) (from : Addr) (octets : List ℕ) (readings : List ℕ) (answer : List ℕ) : Type 0 where
   pub came : ℕ
   pub sent : ℕ
-  pub class : IsClass octets from (Time ask)
   pub read : readings ≡ came ∷ sent ∷ []
+  pub is : IsTimeAnswer origin from octets came sent answer ⊎ IsControlAnswer origin from octets answer
 
 -- what follows a datagram at the port, and what is read of the clock, by how the call ends
 abbrev pub Follows : Ntp64 → Ending → Addr → List ℕ → List Event → List ℕ → Type 0
 Follows origin (Answered count) from octets events readings =
-    (asked : IsAsked from octets readings)
-    × (events ≡ Sent from (reply_octets origin asked.ask asked.came asked.sent) ∷ []) × (count ≡ 1)
+    (answer : List ℕ) × IsAnswer origin from octets readings answer
+    × (events ≡ Sent from answer ∷ []) × (count ≡ 1)
 Follows origin (Silent why) from octets events readings =
     (came : ℕ) × IsClass octets from (NotHeard why) × (events ≡ []) × (readings ≡ came ∷ [])
-Follows origin PortFailed from octets events readings = IsAsked from octets readings × (events ≡ [])
-Follows origin NoMemory from octets events readings = IsAsked from octets readings × (events ≡ [])
+Follows origin PortFailed from octets events readings =
+    (answer : List ℕ) × IsAnswer origin from octets readings answer × (events ≡ [])
+Follows origin NoMemory from octets events readings = events ≡ []
 Follows origin Words from octets events readings = ⊥
 Follows origin HostFailed from octets events readings = ⊥
 Follows origin Quiet from octets events readings = ⊥
@@ -92,3 +108,13 @@ pub record Causes (ending : Ending) (faults faults' quiets quiets' : ℕ) (is_cl
   pub failed : ending ≡ PortFailed → Rose 1 faults faults'
   pub quiet : ending ≡ Quiet → Rose PATIENCE quiets quiets'
   pub closed : ending ≡ Closed → IsTrue is_closed
+
+-- a datagram was taken
+abbrev pub HasCome : List Event → Type 0
+HasCome events =
+    (before : List Event) × (from : Addr) × (octets : List ℕ) × (after : List Event)
+    × (events ≡ before ++ Took from octets ∷ after)
+
+-- the datagram was served, or there was no memory to serve it
+abbrev pub IsServed : Status → Type 0
+IsServed status = (status.0 ≡ 0) ⊎ (status.0 ≡ 9)

@@ -3,7 +3,7 @@ ghost use Rattle.net_addr.specs.declared.addr.Addr.{Addr};
 ghost use Rattle.edge_traits.specs.Told.{gained, Grows, Rose, TellsJust};
 ghost use Rattle.edge_traits.specs.declared.port.Event.{Event};
 ghost use Rattle.ntpd_serve.specs.Ending.{Reports, status_of};
-ghost use Rattle.ntpd_serve.specs.Once.{Happens};
+ghost use Rattle.ntpd_serve.specs.Once.{Happens, HasCome, IsServed};
 ghost use Rattle.ntpd_serve.specs.Command.{AsksOnce, IsNoCommand, EndsBefore, IsHostEnding};
 ghost use Rattle.ntpd_serve.specs.declared.ending.Ending.{Ending};
 
@@ -12,6 +12,7 @@ use crate::once::{Common, PATIENCE, serve_once};
 use crate::report::report;
 use edge_traits::{Clock, Gate, Host, HostFault, Port, Sink, Status};
 use net_addr::{Addr, read_named};
+use std::alloc::Global;
 use std::sync::Wait;
 use std::thread::Threads;
 
@@ -35,12 +36,14 @@ pub struct Ended<P, C> {
 /// `once ADDR:PORT` serves one datagram at that address. Other words are no command.
 pub fn ntpd<R: Threads + Wait, H: Host, S: Sink, G: Gate>(
     _rt: &R,
+    alloc: Global,
     words: &[String],
     host: &mut H,
     _gate: &G,
     out: &mut S,
 ) -> Ended<H::P, H::C>
-    // What became of the datagram, where the host gave a port.
+    // What became of the datagram, where the host gave a port. Where one came, only a fault of the
+    // port or of the sink, or want of memory, keeps it from being served.
     ensures served { IfSome result.single (λ single. (at : Addr) × (ending : Ending)
         × (events : List Event) × (readings : List ℕ)
         × AsksOnce (map string_bytes words.now) at
@@ -49,7 +52,9 @@ pub fn ntpd<R: Threads + Wait, H: Host, S: Sink, G: Gate>(
         × Happens (H.origin host.old) ending events readings
         × TellsJust (H.P.trace single.port) events
         × TellsJust (H.C.readings single.clock) readings
-        × Reports ending result.status (S.contents out.old) (S.contents out.new)) }
+        × Reports ending result.status (S.contents out.old) (S.contents out.new)
+        × (HasCome events → ¬ (1 ≤ H.P.faults single.port)
+        → ¬ Rose 1 (S.faults out.old) (S.faults out.new) → IsServed result.status)) }
 
     // Otherwise the words are no command, or the host failed or had no memory.
     ensures before { IfNone result.single ((ending : Ending)
@@ -72,7 +77,7 @@ pub fn ntpd<R: Threads + Wait, H: Host, S: Sink, G: Gate>(
 {
     match once_address(words) {
         None => ended_before(&Ending::Words, out),
-        Some(at) => once(&at, host, out),
+        Some(at) => once(alloc, &at, host, out),
     }
 }
 
@@ -101,6 +106,7 @@ fn address_of(command: &[u8], at: &[u8]) -> Option<Addr>
 
 /// Serves one datagram at this port.
 fn serve<P: Port, C: Clock, S: Sink>(
+    alloc: Global,
     single: Single<P, C>,
     common: &Common,
     out: &mut S,
@@ -111,7 +117,9 @@ fn serve<P: Port, C: Clock, S: Sink>(
         × Happens common.now.origin ending events readings
         × (P.trace left.port ≡ gained (P.trace single.port) events)
         × Grows (C.readings single.clock) (C.readings left.clock) readings
-        × Reports ending result.status (S.contents out.old) (S.contents out.new)) }
+        × Reports ending result.status (S.contents out.old) (S.contents out.new)
+        × (HasCome events → ¬ Rose 1 (P.faults single.port) (P.faults left.port)
+        → ¬ Rose 1 (S.faults out.old) (S.faults out.new) → IsServed result.status)) }
     ensures address { IfSome result.single (λ left. P.address left.port ≡ P.address single.port) }
     ensures port_failed { result.status.0 ≡ 4
         → IsSomeAnd result.single (λ left. Rose 1 (P.faults single.port) (P.faults left.port)) }
@@ -125,7 +133,7 @@ fn serve<P: Port, C: Clock, S: Sink>(
         mut port,
         mut clock,
     } = single;
-    let status = serve_once(&mut port, &mut clock, common, out);
+    let status = serve_once(alloc, &mut port, &mut clock, common, out);
     Ended {
         status,
         single: Some(Single { port, clock }),
@@ -146,7 +154,7 @@ fn ended_before<P, C, S: Sink>(ending: &Ending, out: &mut S) -> Ended<P, C>
 }
 
 /// Serves one datagram at the address.
-fn once<H: Host, S: Sink>(at: &Addr, host: &mut H, out: &mut S) -> Ended<H::P, H::C>
+fn once<H: Host, S: Sink>(alloc: Global, at: &Addr, host: &mut H, out: &mut S) -> Ended<H::P, H::C>
     ensures served { IfSome result.single (λ single. (ending : Ending)
         × (events : List Event) × (readings : List ℕ)
         × (H.binds host.new ≡ gained (H.binds host.old) (at.now ∷ []))
@@ -154,7 +162,9 @@ fn once<H: Host, S: Sink>(at: &Addr, host: &mut H, out: &mut S) -> Ended<H::P, H
         × Happens (H.origin host.old) ending events readings
         × TellsJust (H.P.trace single.port) events
         × TellsJust (H.C.readings single.clock) readings
-        × Reports ending result.status (S.contents out.old) (S.contents out.new)) }
+        × Reports ending result.status (S.contents out.old) (S.contents out.new)
+        × (HasCome events → ¬ (1 ≤ H.P.faults single.port)
+        → ¬ Rose 1 (S.faults out.old) (S.faults out.new) → IsServed result.status)) }
     ensures before { IfNone result.single ((ending : Ending) × IsHostEnding ending
         × (H.binds host.new ≡ H.binds host.old)
         × Reports ending result.status (S.contents out.old) (S.contents out.new)) }
@@ -178,7 +188,7 @@ fn once<H: Host, S: Sink>(at: &Addr, host: &mut H, out: &mut S) -> Ended<H::P, H
                 salt: host.salt(),
                 origin: host.origin(),
             };
-            serve(Single { port, clock }, &common, out)
+            serve(alloc, Single { port, clock }, &common, out)
         }
     }
 }

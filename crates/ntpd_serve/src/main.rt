@@ -1,6 +1,6 @@
 //! The program `ntpd`: an NTP server. Today it serves one datagram, by `once ADDR:PORT`.
 //!
-//! Layer 7. Stands on: `server_core`, `sys_vars`, `edge_traits`, `net_addr`, `fixed_time`.
+//! Layer 7. Stands on: `server_core`, `sys_vars`, `mode6_frame`, `edge_traits`, `net_addr`, `fixed_time`.
 //! Promises: `once` gives the defined answer to one datagram and nothing else, and prints the line
 //! of its status.
 #![tactic(auto)]
@@ -24,6 +24,7 @@ fn main(rt: HostRuntime) -> ExitCode {
         Some(notice) => usage::print(notice, &mut out),
         None => ntpd(
             &rt,
+            rt.alloc(),
             words.as_slice(),
             &mut RealHost::new(rt),
             &OpenGate,

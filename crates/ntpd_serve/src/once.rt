@@ -2,16 +2,20 @@ ghost use Rattle.std.specs.Prelude.{◌≡◌, ◌≤◌, ◌<◌, ◌+◌, ℕ,
 ghost use Rattle.edge_traits.specs.Told.{gained, Grows, Rose};
 ghost use Rattle.edge_traits.specs.declared.port.Event.{Event};
 ghost use Rattle.edge_traits.specs.declared.port.Event.TheVariants.{Took};
+ghost use Rattle.sys_vars.specs.Answers.{gram_of};
+ghost use Rattle.sys_vars.specs.Opening.{opening_record};
 ghost use Rattle.ntpd_serve.specs.Ending.{Reports};
-ghost use Rattle.ntpd_serve.specs.Once.{silences, reply_octets, Follows, Happens, OnlySilences, GivesOne, Causes};
+ghost use Rattle.ntpd_serve.specs.Once.{silences, reply_octets, Follows, Happens, OnlySilences, GivesOne, Causes, HasCome, IsServed};
 
 use crate::ending::Ending;
 use crate::report::report;
-use edge_traits::{Clock, Octets, Port, PortFault, Salt, Sink, Status, Taken};
+use edge_traits::{Clock, Grams, Octets, Port, PortFault, Salt, Sink, Status, Taken};
 use fixed_time::Ntp64;
+use mode6_frame::{HEAD_LEN, MAX_BODY};
 use net_addr::Addr;
 use server_core::{Ask, Basis, Class, classify, time_reply};
-use sys_vars::Record;
+use std::alloc::{AllocError, Global};
+use sys_vars::{Answer, Asked, Context, Record};
 
 /// After so many takes that found nothing a call gives up.
 pub const PATIENCE: u32 = 60;
@@ -28,17 +32,23 @@ pub struct Common {
 /// Serves one datagram from the opening record, and prints what became of it. It gives up after 60
 /// takes that found nothing.
 pub fn serve_once<P: Port, C: Clock, S: Sink>(
+    alloc: Global,
     port: &mut P,
     clock: &mut C,
     common: &Common,
     out: &mut S,
 ) -> Status
     requires most { 1024 ≤ P.most port.old }
+
+    // What happened, and what was printed; and where a datagram came, only a fault of the port or of
+    // the sink, or want of memory, keeps it from being served.
     ensures served { (ending : Ending) × (events : List Event) × (readings : List ℕ)
         × Happens common.now.origin ending events readings
         × (P.trace port.new ≡ gained (P.trace port.old) events)
         × Grows (C.readings clock.old) (C.readings clock.new) readings
-        × Reports ending result (S.contents out.old) (S.contents out.new) }
+        × Reports ending result (S.contents out.old) (S.contents out.new)
+        × (HasCome events → ¬ Rose 1 (P.faults port.old) (P.faults port.new)
+        → ¬ Rose 1 (S.faults out.old) (S.faults out.new) → IsServed result) }
 
     // Each status that is a fault has its cause.
     ensures port_failed { result.0 ≡ 4 → Rose 1 (P.faults port.old) (P.faults port.new) }
@@ -51,12 +61,17 @@ pub fn serve_once<P: Port, C: Clock, S: Sink>(
     ensures sink_faults_kept { S.faults out.old ≤ S.faults out.new }
     ensures address_kept { P.address port.new ≡ P.address port.old }
 {
-    let ending = answer_one(port, clock, common);
+    let ending = answer_one(alloc, port, clock, common);
     report(&ending, out)
 }
 
 /// Takes until a datagram comes, and answers it.
-fn answer_one<P: Port, C: Clock>(port: &mut P, clock: &mut C, common: &Common) -> Ending
+fn answer_one<P: Port, C: Clock>(
+    alloc: Global,
+    port: &mut P,
+    clock: &mut C,
+    common: &Common,
+) -> Ending
     requires most { 1024 ≤ P.most port.old }
     ensures happens { (events : List Event) × (readings : List ℕ)
         × Happens common.now.origin result events readings
@@ -70,7 +85,7 @@ fn answer_one<P: Port, C: Clock>(port: &mut P, clock: &mut C, common: &Common) -
 {
     let mut datagram = Octets::new();
     match wait(port, &mut datagram) {
-        Ok(from) => answer(port, clock, common, &from, &datagram),
+        Ok(from) => answer(alloc, port, clock, common, &from, &datagram),
         Err(ending) => ending,
     }
 }
@@ -102,6 +117,7 @@ fn wait<P: Port>(port: &mut P, into: &mut Octets) -> Result<Addr, Ending>
 
 /// Answers a datagram from this address.
 fn answer<P: Port, C: Clock>(
+    alloc: Global,
     port: &mut P,
     clock: &mut C,
     common: &Common,
@@ -120,13 +136,47 @@ fn answer<P: Port, C: Clock>(
     ensures address_kept { P.address port.new ≡ P.address port.old }
 {
     let came = clock.now();
-    match classify(datagram.as_slice(), from) {
-        Class::Silent(why) => Ending::Silent(why),
-        Class::Time(ask) => {
+    match classify(alloc, datagram.as_slice(), from) {
+        Err(_) => Ending::NoMemory,
+        Ok(Class::Silent(why)) => Ending::Silent(why),
+        Ok(Class::Time(ask)) => {
             let sent = clock.now();
             give(port, from, &reply(common, &ask, came, sent))
         }
+        Ok(Class::Look(asked)) => match control_answer(alloc, common, &asked, came) {
+            Err(_) => Ending::NoMemory,
+            Ok(grams) => {
+                let _sent = clock.now();
+                give(port, from, grams.get(0))
+            }
+        },
     }
+}
+
+/// The answer to a control request that came at this moment, from the opening record: one datagram.
+fn control_answer(
+    alloc: Global,
+    common: &Common,
+    asked: &Asked,
+    came: u64,
+) -> Result<Grams, AllocError>
+    ensures value { IfOk result
+        (λ grams. grams ≡ gram_of (opening_record common.now.origin) asked.now ∷ []) }
+    ensures short { IfOk result (λ _.
+        length (gram_of (opening_record common.now.origin) asked.now) ≤ HEAD_LEN + MAX_BODY) }
+{
+    let context = Context {
+        salt: common.salt,
+        origin: common.origin,
+        moment: came,
+    };
+    let Answer::Given { grams, .. } = sys_vars::answering::answer(
+        alloc,
+        &Record::opening(common.origin),
+        asked,
+        &context,
+    )?;
+    Ok(grams)
 }
 
 /// The reply to a request, from the opening record.

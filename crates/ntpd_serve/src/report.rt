@@ -61,7 +61,9 @@ fn put_unheard(line: &mut Octets, why: &Unheard)
     match why {
         Unheard::Packet(number) => put_numbered(line, b"packet ", *number),
         Unheard::Trailer(number) => put_numbered(line, b"trailer ", *number),
+        Unheard::Frame(number) => put_numbered(line, b"frame ", *number),
         Unheard::Unserved(mode) => put_numbered(line, b"unserved ", *mode),
+        Unheard::NotRequest => line.put(b"not-request"),
     }
 }
 

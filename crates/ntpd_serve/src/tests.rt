@@ -36,6 +36,12 @@ const REPLY: [u8; 48] = [
     0, 0, 0, 0,
 ];
 
+/// A control request: read the variable `stratum`, version 2, sequence 1.
+const READ_STRATUM: [u8; 20] = *b"\x16\x02\x00\x01\x00\x00\x00\x00\x00\x00\x00\x07stratum\x00";
+
+/// The answer to it of a server that knows no time yet.
+const STRATUM: [u8; 24] = *b"\x16\x82\x00\x01\xc0\x11\x00\x00\x00\x00\x00\x0cstratum=16\r\n";
+
 fn octets_of(bytes: &[u8]) -> Octets {
     let mut octets = Octets::new();
     for byte in bytes {
@@ -78,7 +84,7 @@ fn run_over(
     let mut host = MemoryHost::of(alloc, ports, clocks, ORIGIN, Salt([0; 16]), Vec::new(alloc));
     let mut out = MemorySink::of(alloc, failing_writes);
     let words = words_of(alloc, texts)?;
-    let ended = ntpd(rt, words.as_slice(), &mut host, &OpenGate, &mut out);
+    let ended = ntpd(rt, alloc, words.as_slice(), &mut host, &OpenGate, &mut out);
     Ok(Run { ended, out })
 }
 
@@ -163,6 +169,84 @@ fn what_is_no_request_gets_no_answer(rt: HostRuntime) -> Result<(), Fail> {
             &rt,
             rt.alloc(),
             &["once", "127.0.0.1:123"],
+            incoming,
+            none,
+            Vec::new(rt.alloc()),
+        )?;
+        check_run(&rt, &run, 0, printed, 0, printed);
+    }
+    Ok(())
+}
+
+#[test]
+fn a_control_request_gets_its_answer(rt: HostRuntime) -> Result<(), Fail> {
+    let cases: [(&[u8], &[u8], &str); 4] = [
+        (&READ_STRATUM, &STRATUM, "a known variable"),
+        (
+            b"\x16\x02\x00\x01\x00\x00\x00\x00\x00\x00\x00\x04nope",
+            b"\x16\xc2\x00\x01\x05\x00\x00\x00\x00\x00\x00\x00",
+            "an unknown variable",
+        ),
+        (
+            b"\x16\x02\x00\x01\x00\x00\x00\x09\x00\x00\x00\x07stratum\x00",
+            b"\x16\xc2\x00\x01\x04\x00\x00\x09\x00\x00\x00\x00",
+            "an unknown association",
+        ),
+        (
+            b"\x16\x03\x00\x01\x00\x00\x00\x00\x00\x00\x00\x00",
+            b"\x16\xc3\x00\x01\x03\x00\x00\x00\x00\x00\x00\x00",
+            "an operation that is not served",
+        ),
+    ];
+    for (request, answer, what) in cases {
+        let incoming = one(rt.alloc(), request)?;
+        let none = Vec::new(rt.alloc());
+        let words = ["once", "127.0.0.1:123"];
+        let run = run_over(
+            &rt,
+            rt.alloc(),
+            &words,
+            incoming,
+            none,
+            Vec::new(rt.alloc()),
+        )?;
+        check_run(&rt, &run, 0, "answered 1\n", 1, what);
+        let (_, gave) = given(&run);
+        assert_eq!(rt; gave.as_slice(), answer, "the answer about {what}");
+    }
+    Ok(())
+}
+
+#[test]
+fn what_is_no_control_request_gets_no_answer(rt: HostRuntime) -> Result<(), Fail> {
+    let mut long = READ_STRATUM;
+    long[11] = 9;
+    let mut zero = READ_STRATUM;
+    zero[0] = 0x06;
+    let mut five = READ_STRATUM;
+    five[0] = 0x2e;
+    let mut error = READ_STRATUM;
+    error[1] = 0x42;
+    let mut more = READ_STRATUM;
+    more[1] = 0x22;
+    let cases: [(&[u8], &str); 8] = [
+        (&READ_STRATUM[..1], "silent frame 1\n"),
+        (&READ_STRATUM[..11], "silent frame 1\n"),
+        (&zero, "silent frame 2\n"),
+        (&five, "silent frame 2\n"),
+        (&long, "silent frame 4\n"),
+        (&STRATUM, "silent not-request\n"),
+        (&error, "silent not-request\n"),
+        (&more, "silent not-request\n"),
+    ];
+    for (datagram, printed) in cases {
+        let incoming = one(rt.alloc(), datagram)?;
+        let none = Vec::new(rt.alloc());
+        let words = ["once", "127.0.0.1:123"];
+        let run = run_over(
+            &rt,
+            rt.alloc(),
+            &words,
             incoming,
             none,
             Vec::new(rt.alloc()),
@@ -315,14 +399,14 @@ fn a_host_that_gives_no_port_has_its_status(rt: HostRuntime) -> Result<(), Fail>
     );
     let mut out = MemorySink::of(alloc, Vec::new(alloc));
     let words = words_of(alloc, &["once", "127.0.0.1:123"])?;
-    let ended = ntpd(&rt, words.as_slice(), &mut host, &OpenGate, &mut out);
+    let ended = ntpd(&rt, alloc, words.as_slice(), &mut host, &OpenGate, &mut out);
     assert_eq!(rt; out.contents(), b"ntpd: host\n".as_slice());
     assert_eq!(rt; ended.status, Status(3));
     Ok(())
 }
 
 #[test]
-fn a_request_on_a_real_socket_is_answered(rt: HostRuntime) -> Result<(), Fail> {
+fn requests_on_a_real_socket_are_answered(rt: HostRuntime) -> Result<(), Fail> {
     let any = Addr {
         ip: Ip::V4([127, 0, 0, 1]),
         port: 0,
@@ -330,18 +414,22 @@ fn a_request_on_a_real_socket_is_answered(rt: HostRuntime) -> Result<(), Fail> {
     let mut server = UdpPort::bind(&rt, &any)?;
     let mut client = UdpPort::bind(&rt, &any)?;
     let at = server.local().ok_or("the server's own address")?;
-    assert!(rt; client.give(&at, &REQUEST).is_ok());
-    let mut clock = MemoryClock::of(vec![in rt.alloc(); SECOND]?);
-    let mut out = MemorySink::of(rt.alloc(), Vec::new(rt.alloc()));
     let common = Common {
         salt: Salt([0; 16]),
         origin: ORIGIN,
     };
-    let status = serve_once(&mut server, &mut clock, &common, &mut out);
-    assert_eq!(rt; status, Status(0));
-    assert_eq!(rt; out.contents(), b"answered 1\n".as_slice());
-    let mut reply = Octets::new();
-    assert_eq!(rt; client.take(&mut reply), Ok(Taken::Datagram(at)));
-    assert_eq!(rt; reply.as_slice(), REPLY.as_slice());
+    let cases: [(&[u8], &[u8]); 2] = [(&REQUEST, &REPLY), (&READ_STRATUM, &STRATUM)];
+    for (request, answer) in cases {
+        assert!(rt; request.len() <= 48);
+        assert!(rt; client.give(&at, request).is_ok());
+        let mut clock = MemoryClock::of(vec![in rt.alloc(); SECOND]?);
+        let mut out = MemorySink::of(rt.alloc(), Vec::new(rt.alloc()));
+        let status = serve_once(rt.alloc(), &mut server, &mut clock, &common, &mut out);
+        assert_eq!(rt; status, Status(0));
+        assert_eq!(rt; out.contents(), b"answered 1\n".as_slice());
+        let mut taken = Octets::new();
+        assert_eq!(rt; client.take(&mut taken), Ok(Taken::Datagram(at)));
+        assert_eq!(rt; taken.as_slice(), answer);
+    }
     Ok(())
 }

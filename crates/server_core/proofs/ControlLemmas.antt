@@ -17,7 +17,8 @@ use Rattle.sys_vars.specs.declared.asked.What.{What}
 use Rattle.sys_vars.specs.declared.asked.What.TheVariants.{Vars, Bad}
 use Rattle.sys_vars.specs.declared.names.TheConstants.{UNKNOWN_NAME}
 use Rattle.server_core.specs.declared.class.TheConstants.{MODE_CONTROL}
-use Rattle.server_core.specs.declared.control.TheConstants.{READ_VARIABLES, BAD_FORMAT, BAD_OPERATION}
+use Rattle.sys_vars.specs.declared.answering.TheConstants.{BAD_FORMAT, BAD_OPERATION}
+use Rattle.server_core.specs.declared.control.TheConstants.{READ_VARIABLES}
 use Rattle.server_core.specs.Control.{IsNumberOf, IsNumberAsked, AreNumbersAsked, IsWhat, IsHeadOf, IsAskedOf}
 
 -- a slot has two octets for each of its items, if its comma is counted

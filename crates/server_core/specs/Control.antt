@@ -13,7 +13,8 @@ use Rattle.sys_vars.specs.declared.asked.What.{What}
 use Rattle.sys_vars.specs.declared.asked.What.TheVariants.{Vars, Bad}
 use Rattle.sys_vars.specs.declared.names.TheConstants.{UNKNOWN_NAME}
 use Rattle.sys_vars.specs.Names.{name_of}
-use Rattle.server_core.specs.declared.control.TheConstants.{READ_VARIABLES, BAD_FORMAT, BAD_OPERATION}
+use Rattle.sys_vars.specs.declared.answering.TheConstants.{BAD_FORMAT, BAD_OPERATION}
+use Rattle.server_core.specs.declared.control.TheConstants.{READ_VARIABLES}
 
 -- the number of a control message's fault, in the order of the tests
 abbrev pub frame_number : FrameFault → ℕ

@@ -13,16 +13,10 @@ use crate::class::{Class, Unheard};
 use mode6_frame::{Frame, FrameFault, Head, ItemFault, Items, read_items};
 use net_addr::Addr;
 use std::alloc::{AllocError, Global};
-use sys_vars::{Asked, NameNumbers, UNKNOWN_NAME, What, name_number};
+use sys_vars::{Asked, BAD_FORMAT, BAD_OPERATION, NameNumbers, UNKNOWN_NAME, What, name_number};
 
 /// The operation code of a request to read variables (RFC 9327, section 2).
 pub const READ_VARIABLES: u8 = 2;
-
-/// The error code of a request whose body is no text of items (RFC 9327, section 3.4).
-pub const BAD_FORMAT: u8 = 2;
-
-/// The error code of an operation that is not served (RFC 9327, section 3.4).
-pub const BAD_OPERATION: u8 = 3;
 
 /// What a datagram of a control message's mode asks for.
 pub(crate) fn classify_control(

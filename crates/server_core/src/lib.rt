@@ -11,5 +11,5 @@ pub mod reply;
 
 pub use class::{Ask, Class, MODE_CLIENT, MODE_CONTROL, Unheard};
 pub use classing::classify;
-pub use control::{BAD_FORMAT, BAD_OPERATION, READ_VARIABLES};
+pub use control::READ_VARIABLES;
 pub use reply::{Basis, time_reply};

@@ -1,4 +1,4 @@
-ghost use Rattle.std.specs.Prelude.{◌≡◌, ◌≤◌, ◌++◌, ◌==◌, if◌then◌else◌, [], IfOk, OnOk, length, codes};
+ghost use Rattle.std.specs.Prelude.{◌≡◌, ◌≤◌, ◌+◌, ◌++◌, ◌==◌, if◌then◌else◌, [], IfOk, OnOk, length, codes};
 ghost use Rattle.mode6_frame.specs.Frames.{spelled_frame};
 ghost use Rattle.sys_vars.specs.Answers.{answer_of, gram_of, vars_gram, text_gram, response_parts, item_text, plain_text};
 
@@ -9,11 +9,14 @@ use crate::published::Record;
 use crate::status::system_status;
 use crate::variables::{VarsFault, items};
 use edge_traits::{Grams, Octets};
-use mode6_frame::{Frame, Head, Item, Items, MAX_BODY, error_gram, write};
+use mode6_frame::{Frame, HEAD_LEN, Head, Item, Items, MAX_BODY, error_gram, write};
 use std::alloc::{AllocError, Global};
 
 /// The error code of a bad format or length (RFC 9327, section 3.4).
 pub const BAD_FORMAT: u8 = 2;
+
+/// The error code of an operation that is not served.
+pub const BAD_OPERATION: u8 = 3;
 
 /// The error code of an unknown association identifier.
 pub const BAD_ASSOCIATION: u8 = 4;
@@ -32,7 +35,8 @@ pub fn answer(
     a: &Asked,
     _context: &Context,
 ) -> Result<Answer, AllocError>
-    ensures { IfOk result (λ given. given ≡ answer_of rec.now a.now) }
+    ensures value { IfOk result (λ given. given ≡ answer_of rec.now a.now) }
+    ensures short { IfOk result (λ _. length (gram_of rec.now a.now) ≤ HEAD_LEN + MAX_BODY) }
 {
     let gram = gram(alloc, rec, a)?;
     let mut grams = Vec::new(alloc);
@@ -44,7 +48,8 @@ pub fn answer(
 }
 
 fn gram(alloc: Global, rec: &Record, a: &Asked) -> Result<Octets, AllocError>
-    ensures { IfOk result (λ gram. gram ≡ gram_of rec.now a.now) }
+    ensures value { IfOk result (λ gram. gram ≡ gram_of rec.now a.now) }
+    ensures short { IfOk result (λ gram. length gram ≤ HEAD_LEN + MAX_BODY) }
 {
     match &a.what {
         What::Bad(code) => Ok(error_gram(&a.head, *code)),
@@ -53,7 +58,8 @@ fn gram(alloc: Global, rec: &Record, a: &Asked) -> Result<Octets, AllocError>
 }
 
 fn vars_gram(alloc: Global, rec: &Record, head: &Head, names: &[u8]) -> Result<Octets, AllocError>
-    ensures { IfOk result (λ gram. gram ≡ vars_gram rec.now head.now names.now) }
+    ensures value { IfOk result (λ gram. gram ≡ vars_gram rec.now head.now names.now) }
+    ensures short { IfOk result (λ gram. length gram ≤ HEAD_LEN + MAX_BODY) }
 {
     match items(alloc, rec, head.assoc, names) {
         Ok(items) => text_gram(alloc, rec, head, &items),
@@ -65,7 +71,8 @@ fn vars_gram(alloc: Global, rec: &Record, head: &Head, names: &[u8]) -> Result<O
 
 #[tactic(auto, unfolding(crate::specs::Answers::text_gram))]
 fn text_gram(alloc: Global, rec: &Record, head: &Head, items: &Items) -> Result<Octets, AllocError>
-    ensures { IfOk result (λ gram. gram ≡ text_gram rec.now head.now items.now) }
+    ensures value { IfOk result (λ gram. gram ≡ text_gram rec.now head.now items.now) }
+    ensures short { IfOk result (λ gram. length gram ≤ HEAD_LEN + MAX_BODY) }
 {
     let text = plain_text(alloc, items)?;
     if text.len() > MAX_BODY {
@@ -77,7 +84,8 @@ fn text_gram(alloc: Global, rec: &Record, head: &Head, items: &Items) -> Result<
 
 fn response(head: &Head, status: u16, text: &[u8]) -> Octets
     requires { length text.now ≤ MAX_BODY }
-    ensures { result ≡ spelled_frame (response_parts head.now status text.now) }
+    ensures value { result ≡ spelled_frame (response_parts head.now status text.now) }
+    ensures short { length result ≤ HEAD_LEN + MAX_BODY }
 {
     write(&Frame {
         leap: 0,

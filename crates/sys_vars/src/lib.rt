@@ -1,7 +1,9 @@
-//! What a server publishes of itself: the system's values and its clock, as one record.
+//! What a server publishes of itself: the system's values and its clock, as one record, and the
+//! answers that are made of it.
 //!
 //! Layer 4. Stands on: `discipline`, `mode6_frame`, `edge_traits`, `net_addr`, `fixed_time`.
-//! Promises: a server opens with one record, given by its values.
+//! Promises: a server opens with one record, given by its values; an answer is a function of one
+//! record and the request.
 #![tactic(auto)]
 
 pub mod answer;
@@ -16,6 +18,7 @@ pub mod system;
 pub mod variables;
 
 pub use answer::Answer;
+pub use answering::{BAD_ASSOCIATION, BAD_FORMAT, BAD_NAME, BAD_OPERATION};
 pub use asked::{Asked, MAX_NAMES, NameNumbers, What};
 pub use context::Context;
 pub use names::{UNKNOWN_NAME, name_number};
