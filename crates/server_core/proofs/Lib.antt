@@ -1,3 +1,4 @@
 pub mod ClassLemmas
 pub mod ControlLemmas
 pub mod ReplyLemmas
+mod StandardFacts

@@ -139,3 +139,115 @@ fn number_asked(assoc: u16, name: &[u8]) -> u8
         UNKNOWN_NAME
     }
 }
+
+#[cfg(test)]
+mod tests {
+    use super::*;
+    use net_addr::Ip;
+    use std::test::Fail;
+
+    const CLIENT: Addr = Addr {
+        ip: Ip::V4([192, 0, 2, 1]),
+        port: 123,
+    };
+
+    fn what_of(alloc: Global, datagram: &[u8]) -> Result<Option<What>, AllocError> {
+        match crate::classify(alloc, datagram, &CLIENT)? {
+            Class::Look(asked) => Ok(Some(asked.what)),
+            _ => Ok(None),
+        }
+    }
+
+    #[test]
+    fn a_request_for_stratum_is_read(rt: HostRuntime) -> Result<(), Fail> {
+        let request = *b"\x16\x02\x00\x01\x00\x00\x00\x00\x00\x00\x00\x07stratum\x00";
+        match crate::classify(rt.alloc(), &request, &CLIENT)? {
+            Class::Look(asked) => {
+                assert_eq!(rt; asked.from, CLIENT);
+                assert_eq!(rt; (asked.head.version, asked.head.opcode), (2, 2));
+                assert_eq!(rt; (asked.head.sequence, asked.head.status), (1, 0));
+                assert_eq!(rt; asked.head.assoc, 0);
+            }
+            _ => assert!(rt; false, "it is no control request"),
+        }
+        Ok(())
+    }
+
+    #[test]
+    fn names_are_asked_for_by_their_numbers(rt: HostRuntime) -> Result<(), Fail> {
+        let cases = [
+            (
+                "one name",
+                b"\x16\x02\x00\x01\x00\x00\x00\x00\x00\x00\x00\x07stratum\x00".as_slice(),
+                b"\x02".as_slice(),
+            ),
+            (
+                "an unknown name",
+                b"\x16\x02\x00\x01\x00\x00\x00\x00\x00\x00\x00\x04nope".as_slice(),
+                b"\xff".as_slice(),
+            ),
+            (
+                "several names in their order",
+                b"\x26\x02\x00\x01\x00\x00\x00\x00\x00\x00\x00\x0frefid,nope,leap\x00".as_slice(),
+                b"\x06\xff\x01".as_slice(),
+            ),
+            (
+                "a name of an association",
+                b"\x16\x02\x00\x01\x00\x00\x00\x05\x00\x00\x00\x07stratum\x00".as_slice(),
+                b"\xff".as_slice(),
+            ),
+            (
+                "no name",
+                b"\x16\x02\x00\x01\x00\x00\x00\x00\x00\x00\x00\x00".as_slice(),
+                b"".as_slice(),
+            ),
+        ];
+        for (message, datagram, numbers) in cases {
+            match what_of(rt.alloc(), datagram)? {
+                Some(What::Vars(asked)) => {
+                    assert!(rt; asked.as_slice() == numbers, "{message}");
+                }
+                _ => assert!(rt; false, "{message}"),
+            }
+        }
+        Ok(())
+    }
+
+    #[test]
+    fn what_is_not_served_is_refused_by_its_error_code(rt: HostRuntime) -> Result<(), Fail> {
+        let cases = [
+            (
+                "a value",
+                b"\x16\x02\x00\x01\x00\x00\x00\x00\x00\x00\x00\x0astratum=16\x00\x00".as_slice(),
+                BAD_FORMAT,
+            ),
+            (
+                "operation 1",
+                b"\x16\x01\x00\x01\x00\x00\x00\x00\x00\x00\x00\x00".as_slice(),
+                BAD_OPERATION,
+            ),
+            (
+                "operation 3 before a body that is refused",
+                b"\x16\x03\x00\x01\x00\x00\x00\x00\x00\x00\x00\x01=\x00\x00\x00".as_slice(),
+                BAD_OPERATION,
+            ),
+            (
+                "operation 10",
+                b"\x16\x0a\x00\x01\x00\x00\x00\x00\x00\x00\x00\x00".as_slice(),
+                BAD_OPERATION,
+            ),
+            (
+                "operation 12",
+                b"\x16\x0c\x00\x01\x00\x00\x00\x00\x00\x00\x00\x00".as_slice(),
+                BAD_OPERATION,
+            ),
+        ];
+        for (message, datagram, code) in cases {
+            match what_of(rt.alloc(), datagram)? {
+                Some(What::Bad(refused)) => assert_eq!(rt; refused, code, "{message}"),
+                _ => assert!(rt; false, "{message}"),
+            }
+        }
+        Ok(())
+    }
+}

@@ -74,3 +74,66 @@ fn root_dispersion(system: &System, moment: u64) -> Short
     let grown = drift(moment.saturating_sub(system.at), PHI);
     to_short(system.root_disp.saturating_add(grown).min(MAX_DISPERSION))
 }
+
+#[cfg(test)]
+mod tests {
+    use super::*;
+    use fixed_time::Ntp64;
+    use net_addr::{Addr, Ip};
+    use sys_vars::Record;
+
+    /// The origin of Unix time.
+    const UNIX: Ntp64 = Ntp64(0x83aa_7e80_0000_0000);
+
+    const ASK: Ask = Ask {
+        from: Addr {
+            ip: Ip::V4([192, 0, 2, 1]),
+            port: 123,
+        },
+        version: 4,
+        poll: 6,
+        transmit: UNIX,
+    };
+
+    /// What a server's first reply is made of, whose clock begins at the origin of Unix time.
+    fn opening() -> Basis {
+        let record = Record::opening(UNIX);
+        Basis {
+            system: record.system,
+            clock: record.clock,
+        }
+    }
+
+    #[test]
+    fn a_server_that_knows_no_time_says_so(rt: HostRuntime) {
+        let reply = time_reply(&opening(), &ASK, 1 << 32, 1 << 32);
+        let octets = *b"\xe4\x00\x06\xec\x00\x00\x00\x00\x00\x10\x00\x00INIT\
+            \x00\x00\x00\x00\x00\x00\x00\x00\x83\xaa\x7e\x80\x00\x00\x00\x00\
+            \x83\xaa\x7e\x81\x00\x00\x00\x00\x83\xaa\x7e\x81\x00\x00\x00\x00";
+        assert!(rt; reply.as_slice() == octets.as_slice());
+    }
+
+    #[test]
+    fn dispersion_grows_by_15_seconds_in_a_million(rt: HostRuntime) {
+        // 0.015 seconds in 1000: 983.04 of 2^-16 seconds.
+        let cases = [
+            ("nothing has passed", 5, 5, 5 << 32, 5 << 16),
+            ("1000 seconds have passed", 5, 1005, 0, 984),
+            ("it has the maximum", 5, 6, 16 << 32, 16 << 16),
+        ];
+        for (message, at, came, root_disp, shown) in cases {
+            let mut basis = opening();
+            basis.system.at = at << 32;
+            basis.system.root_disp = root_disp;
+            let dispersion = root_dispersion(&basis.system, came << 32);
+            assert_eq!(rt; dispersion, Short(shown), "{message}");
+        }
+    }
+
+    #[test]
+    fn nothing_is_sent_before_it_came(rt: HostRuntime) {
+        let header = header_of(&opening(), &ASK, 2 << 32, 1 << 32);
+        assert_eq!(rt; header.receive, Ntp64(0x83aa_7e82_0000_0000));
+        assert_eq!(rt; header.transmit, header.receive);
+    }
+}
