@@ -1,17 +1,16 @@
 -- Worked values: what a server that opens publishes of itself, texts of reference identifiers, and datagrams
 -- that answer (RFC 9327, sections 2, 3.1, 3.4 and 4; RFC 5905, section 7.3).
-use Rattle.std.proofs.Common.{◌≡◌, ℕ, replicate, lit≤, List, [], ◌∷◌, Option, Some, None, refl}
+use Rattle.std.proofs.Common.{◌≡◌, ℕ, replicate, lit≤, [], ◌∷◌, Some, None, refl}
 use Rattle.std.specs.Prelude.{codes}
 use Rattle.std.specs.Fmt.{digits}
 use Rattle.hex.specs.Hex.{encode_with}
-use Rattle.mode6_frame.specs.declared.items.Item.{Item}
 use Rattle.mode6_frame.specs.declared.message.Head.{Head}
 use Rattle.mode6_frame.specs.Frames.{head_of}
 use Rattle.sys_vars.specs.declared.variables.VarsFault.TheVariants.{UnknownAssociation, UnknownName}
 use Rattle.sys_vars.specs.Opening.{opening_system, opening_record}
 use Rattle.sys_vars.specs.Status.{system_status_of}
 use Rattle.sys_vars.specs.Variables.{refid_text, variable_of, variables_of, vars_fault_of}
-use Rattle.sys_vars.specs.Answers.{plain_text, error_octets, vars_gram, text_gram}
+use Rattle.sys_vars.specs.Answers.{plain_text, vars_gram, text_gram}
 
 -- the clock is not synchronized, and one event came, whose code is 1
 opening-status : system_status_of opening_system ≡ 0xc011

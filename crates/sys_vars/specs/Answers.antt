@@ -1,5 +1,5 @@
 -- The answer to a control request (RFC 9327, sections 2, 3.4 and 4), as a function of one record.
-use Rattle.std.specs.Prelude.{ℕ, ◌<◌, ◌==◌, not, nat_lt, Bool, true, false, if◌then◌else◌, Option, Some, None, List, [], ◌∷◌, ◌++◌, length, codes}
+use Rattle.std.specs.Prelude.{ℕ, ◌==◌, not, nat_lt, true, false, if◌then◌else◌, Option, Some, None, List, [], ◌∷◌, ◌++◌, length, codes}
 use Rattle.std.specs.List.{list_any, join_by}
 use Rattle.mode6_frame.specs.declared.items.Item.{Item}
 use Rattle.mode6_frame.specs.declared.message.Head.{Head}

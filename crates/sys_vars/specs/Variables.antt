@@ -1,5 +1,5 @@
 -- The system variables as items of a text (RFC 9327, section 4; RFC 5905, section 7.3, for the reference identifier).
-use Rattle.std.specs.Prelude.{ℕ, ◌<◌, Bool, not, ◌==◌, ◌&&◌, nat_lt, if◌then◌else◌, Option, Some, None, is_none, List, [], ◌∷◌, ◌++◌, length, codes, decimal, position, filter_map, option_map}
+use Rattle.std.specs.Prelude.{ℕ, Bool, not, ◌==◌, ◌&&◌, nat_lt, if◌then◌else◌, Option, Some, is_none, List, [], ◌∷◌, ◌++◌, length, codes, decimal, position, filter_map, option_map}
 use Rattle.std.specs.Int.{is_in_range}
 use Rattle.std.specs.Char.{is_ascii_alphanumeric}
 use Rattle.std.specs.List.{list_all, before_first}

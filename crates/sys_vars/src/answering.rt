@@ -137,10 +137,11 @@ fn put_item(text: &mut Vec<u8>, before: &[u8], item: &Item) -> Result<(), AllocE
 mod tests {
     use super::*;
     use crate::asked::{MAX_NAMES, NameNumbers};
-    use crate::system::System;
+    use crate::names::{LEAP, STRATUM};
     use edge_traits::Salt;
     use fixed_time::Ntp64;
     use net_addr::{Addr, Ip};
+    use std::process::Abort;
     use std::test::Fail;
 
     const CONTEXT: Context = Context {
@@ -157,7 +158,8 @@ mod tests {
 
     /// The one datagram that answers.
     fn reply(
-        rt: &HostRuntime,
+        rt: &impl Abort,
+        alloc: Global,
         rec: &Record,
         opcode: u8,
         assoc: u16,
@@ -178,7 +180,7 @@ mod tests {
             },
             what,
         };
-        let Answer::Given { epoch, grams } = answer(rt.alloc(), rec, &asked, &CONTEXT)?;
+        let Answer::Given { epoch, grams } = answer(alloc, rec, &asked, &CONTEXT)?;
         assert_eq!(rt; epoch, rec.epoch);
         assert_eq!(rt; grams.len(), 1);
         Ok(grams.get(0).copy())
@@ -216,7 +218,14 @@ mod tests {
         ];
         for (assoc, names, wanted) in cases {
             assert!(rt; names.len() <= MAX_NAMES);
-            let octets = reply(&rt, &opening, 2, assoc, variables(rt.alloc(), names)?)?;
+            let octets = reply(
+                &rt,
+                rt.alloc(),
+                &opening,
+                2,
+                assoc,
+                variables(rt.alloc(), names)?,
+            )?;
             assert!(rt; octets.as_slice() == wanted, "{names:?}");
         }
         Ok(())
@@ -225,9 +234,64 @@ mod tests {
     #[test]
     fn a_bad_request_gets_its_error(rt: HostRuntime) -> Result<(), Fail> {
         let opening = Record::opening(Ntp64(0));
-        let octets = reply(&rt, &opening, 3, 0, What::Bad(3))?;
+        let octets = reply(&rt, rt.alloc(), &opening, 3, 0, What::Bad(3))?;
         let wanted = b"\x16\xc3\x00\x01\x03\x00\x00\x00\x00\x00\x00\x00".as_slice();
         assert!(rt; octets.as_slice() == wanted);
+        Ok(())
+    }
+    // `leap=3` has 6 octets, `stratum=1` has 9, and with what joins them 53 and 4 of them have
+    // 53 * 8 + 4 * 11 = 468; 49 and 7 have 469, and 40 times `stratum=16` has 480.
+    #[test]
+    fn a_text_of_468_octets_is_the_longest(rt: HostRuntime) -> Result<(), Fail> {
+        let opening = Record::opening(Ntp64(0));
+        let mut primary = opening;
+        primary.system.stratum = 1;
+        let cases = [
+            (
+                primary,
+                53,
+                4,
+                b"\x82\x00\x01\xc0\x11\x00\x00\x00\x00\x01\xd4".as_slice(),
+                480,
+            ),
+            (
+                primary,
+                49,
+                7,
+                b"\xc2\x00\x01\x02\x00\x00\x00\x00\x00\x00\x00".as_slice(),
+                12,
+            ),
+            (
+                opening,
+                0,
+                39,
+                b"\x82\x00\x01\xc0\x11\x00\x00\x00\x00\x01\xd4".as_slice(),
+                480,
+            ),
+            (
+                opening,
+                0,
+                40,
+                b"\xc2\x00\x01\x02\x00\x00\x00\x00\x00\x00\x00".as_slice(),
+                12,
+            ),
+        ];
+        for (record, leaps, strata, head, len) in cases {
+            let mut names = vec![in rt.alloc(); LEAP; leaps]?;
+            names.extend_from_slice(vec![in rt.alloc(); STRATUM; strata]?.as_slice())?;
+            assert!(rt; names.len() <= MAX_NAMES);
+            let octets = reply(
+                &rt,
+                rt.alloc(),
+                &record,
+                2,
+                0,
+                What::Vars(NameNumbers::of(names)),
+            )?;
+            assert_eq!(rt; octets.len(), len);
+            assert!(rt; len >= 12);
+            assert!(rt; &octets.as_slice()[1..12] == head, "{leaps} {strata}");
+        }
         Ok(())
     }
 }

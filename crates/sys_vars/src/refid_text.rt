@@ -92,3 +92,28 @@ fn hexadecimal(alloc: Global, octets: &[u8; 4]) -> Result<Text, AllocError>
     text.extend_from_slice(hex::encode(alloc, octets.as_slice())?.as_bytes())?;
     Ok(Text::of(text))
 }
+
+#[cfg(test)]
+mod tests {
+    use super::*;
+    use std::test::Fail;
+
+    #[test]
+    fn addresses_codes_and_other_octets_are_shown(rt: HostRuntime) -> Result<(), Fail> {
+        let cases = [
+            (1, *b"GPS\0", b"GPS".as_slice()),
+            (1, *b"\x7f\0\0\x01", b"0x7f000001".as_slice()),
+            (2, *b"\x7f\0\0\x01", b"127.0.0.1".as_slice()),
+            (15, *b"INIT", b"73.78.73.84".as_slice()),
+            (16, *b"INIT", b"INIT".as_slice()),
+            (16, *b"\0\0\0\0", b"0x00000000".as_slice()),
+            (16, *b"ab!\0", b"0x61622100".as_slice()),
+            (0, *b"A\0\xff\xff", b"A".as_slice()),
+        ];
+        for (stratum, refid, wanted) in cases {
+            let text = refid_text(rt.alloc(), stratum, &refid)?;
+            assert!(rt; text.as_slice() == wanted, "{stratum} {refid:?}");
+        }
+        Ok(())
+    }
+}

@@ -145,3 +145,42 @@ impl From<AllocError> for VarsFault {
         VarsFault::NoMemory
     }
 }
+
+#[cfg(test)]
+mod tests {
+    use super::*;
+    use fixed_time::Ntp64;
+    use std::test::Fail;
+
+    #[test]
+    fn all_variables_are_given_where_none_is_named(rt: HostRuntime) -> Result<(), Fail> {
+        let opening = Record::opening(Ntp64(0));
+        let given = items(rt.alloc(), &opening, 0, &[]);
+        assert!(rt; given.is_ok());
+        if let Ok(given) = given {
+            assert_eq!(rt; given.len(), 3);
+            assert!(rt; given.get(0).name.as_slice() == b"leap".as_slice());
+            assert!(rt; given.get(1).name.as_slice() == b"stratum".as_slice());
+            assert!(rt; given.get(2).name.as_slice() == b"refid".as_slice());
+        }
+        Ok(())
+    }
+
+    #[test]
+    fn the_association_is_judged_before_the_names(rt: HostRuntime) {
+        let opening = Record::opening(Ntp64(0));
+        let cases = [
+            (9, b"\xff".as_slice(), VarsFault::UnknownAssociation),
+            (0, b"\x03".as_slice(), VarsFault::UnknownName { place: 0 }),
+            (
+                0,
+                b"\x02\x06\x00\xff".as_slice(),
+                VarsFault::UnknownName { place: 2 },
+            ),
+        ];
+        for (assoc, names, fault) in cases {
+            let refused = items(rt.alloc(), &opening, assoc, names).err();
+            assert_eq!(rt; refused, Some(fault), "{names:?}");
+        }
+    }
+}
