@@ -1,0 +1,9 @@
+-- Which digests are authentic: RFC 5905, section 7.3.
+use Rattle.std.specs.Prelude.{◌≡◌, ℕ, List, IsSomeAnd}
+use Rattle.mac_keys.specs.declared.keys.Key.{Key}
+use Rattle.mac_keys.specs.Digests.{digest_of}
+use Rattle.mac_keys.specs.Tables.{key_of}
+
+-- the table has the key with this id, and the digest given is that of the message under it
+abbrev pub IsAuthentic : List Key → ℕ → List ℕ → List ℕ → Type 0
+IsAuthentic keys id message given = IsSomeAnd (key_of keys id) (λ key. given ≡ digest_of key message)
