@@ -1,0 +1,23 @@
+-- Words of a line, separated by spaces and tabs, up to a comment: our own rule.
+use Rattle.std.specs.Prelude.{ℕ, ◌==◌, nat_lt, Bool, not, ◌||◌, List, length, filter}
+use Rattle.std.specs.List.{before_first, slice_split}
+
+-- a space or a tab
+abbrev pub is_blank : ℕ → Bool
+is_blank octet = octet == 32 || octet == 9
+
+-- a number sign, which begins a comment
+abbrev pub is_number_sign : ℕ → Bool
+is_number_sign octet = octet == 35
+
+-- an octet of a word
+abbrev pub is_word_octet : ℕ → Bool
+is_word_octet octet = not (is_blank octet || is_number_sign octet)
+
+-- a part that isn't empty
+abbrev pub is_some_octets : List ℕ → Bool
+is_some_octets part = nat_lt 0 (length part)
+
+-- the words of a line: the parts that aren't empty between the blanks before its first number sign
+abbrev pub words_of : List ℕ → List (List ℕ)
+words_of line = filter is_some_octets (slice_split is_blank (before_first is_number_sign line))
