@@ -1,2 +1,5 @@
 pub mod ComparisonLemmas
+pub mod KeyLineLemmas
+pub mod KeyTextLemmas
+pub mod KeyWordLemmas
 pub mod TableLemmas

@@ -1,3 +1,5 @@
 pub mod Checks
 pub mod Digests
+pub mod KeyLines
+pub mod KeyTexts
 pub mod Tables
