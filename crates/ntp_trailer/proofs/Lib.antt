@@ -1,3 +1,4 @@
 pub mod DivisionLemmas
 pub mod EndingLemmas
+pub mod AuthenticLemmas
 mod StandardFacts

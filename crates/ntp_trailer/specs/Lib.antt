@@ -1,2 +1,3 @@
 pub mod Trailers
 pub mod Endings
+pub mod Authentic

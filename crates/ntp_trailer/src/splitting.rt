@@ -5,6 +5,7 @@ ghost use Rattle.ntp_trailer.specs.Endings.{BeginsField, LeadsTo, ending_of, fie
 use crate::parts::{
     HEADER_LEN, KEY_ID_LEN, MAX_MAC_LEN, MIN_FIELD_LEN, Mac, Trailer, TrailerFault,
 };
+use crate::places::behind;
 use byteorder::{BigEndian, ByteOrder};
 
 /// The places of the extension fields and of the MAC behind the header of 48 octets
@@ -39,13 +40,6 @@ fn fields_end(bytes: &[u8]) -> usize
         place += length_in(behind(bytes, place));
     }
     place
-}
-
-fn behind(bytes: &[u8], place: usize) -> &[u8]
-    requires { place ≤ length bytes.now }
-    ensures { result.now ≡ drop place bytes.now }
-{
-    &bytes[place..]
 }
 
 fn begins_field(remainder: &[u8]) -> bool
