@@ -2,4 +2,5 @@ pub mod ComparisonLemmas
 pub mod KeyLineLemmas
 pub mod KeyTextLemmas
 pub mod KeyWordLemmas
+pub mod OneAnswerLemmas
 pub mod TableLemmas

@@ -1,5 +1,5 @@
 -- Key files, line after line: our own rule.
-use Rattle.std.specs.Prelude.{◌≡◌, ℕ, ◌+◌, ◌<◌, List, [], ◌∷◌, ◌++◌, length, map, Option, Some, None, ◌⊎◌}
+use Rattle.std.specs.Prelude.{◌≡◌, ℕ, ◌+◌, ◌<◌, List, [], ◌∷◌, ◌++◌, length, map, Option, Some, None, Result, Err, ◌⊎◌}
 use Rattle.text_words.specs.Lines.{lines_of}
 use Rattle.text_words.specs.Numbers.{told_number}
 use Rattle.text_words.specs.Words.{words_of}
@@ -65,3 +65,7 @@ IsFault text NoMemory = Unit {0}
 abbrev pub IsLineFault : List Key → List (List ℕ) → ℕ → KeysFault → Type 0
 IsLineFault keys line number (At at word) = (at ≡ number) × (place : ℕ) × IsRefusedIn keys line place × (word ≡ place + 1)
 IsLineFault keys line number NoMemory = Unit {0}
+
+-- the answer is this one, or memory was wanting
+abbrev pub IsUnlessNoMemory : Result (List Key) KeysFault → Result (List Key) KeysFault → Type 0
+IsUnlessNoMemory result wanted = (result ≡ wanted) ⊎ (result ≡ Err NoMemory)

@@ -1,6 +1,8 @@
-ghost use Rattle.std.specs.Prelude.{◌≡◌, ◌+◌, ◌↔◌, IfOk, IfErr, OnOk, IsTrue};
+ghost use Rattle.std.specs.Prelude.{◌≡◌, ◌+◌, ◌↔◌, ℕ, List, Ok, Err, IfOk, IfErr, OnOk, IsTrue};
 ghost use Rattle.text_words.specs.Words.{words_of};
-ghost use Rattle.mac_keys.specs.KeyTexts.{IsAdmitted, IsFault, IsKeyText, IsLineFault, IsTaken};
+ghost use Rattle.mac_keys.specs.KeyTexts.{IsAdmitted, IsFault, IsFirstRefused, IsKeyText, IsLineFault, IsTaken, IsUnlessNoMemory};
+ghost use Rattle.mac_keys.specs.declared.key_files.KeysFault.TheVariants.{At};
+ghost use Rattle.mac_keys.specs.declared.keys.Key.{Key};
 
 use crate::key_lines::read_line;
 use crate::keys::Key;
@@ -34,7 +36,12 @@ impl From<AllocError> for KeysFault {
 /// Lines and words are those of `text_words`. A line whose type begins with AES is skipped.
 pub fn read_keys(alloc: Global, text: &[u8]) -> Result<KeyTable, KeysFault>
     ensures found { IfOk result (IsKeyText text.now) }
+    ensures only { (keys : List Key) → IsKeyText text.now keys → IsUnlessNoMemory result (Ok keys) }
+
+    // The refusals: want of memory comes freely, and the place exactly.
     ensures refused { IfErr result (IsFault text.now) }
+    ensures refused_only { (line word : ℕ) → IsFirstRefused text.now line word
+        → IsUnlessNoMemory result (Err (At line word)) }
 {
     let mut keys = KeyTable::new(alloc);
     let mut lines = Lines::of(text);
