@@ -1,7 +1,6 @@
 -- Where a MAC stands in the octets that have it, and that a spelled one is read back.
-use Rattle.std.proofs.Common.{ℕ, ◌≡◌, ◌+◌, ◌≤◌, ◌++◌, ◌⊎◌, inl, inr, List, [], ◌∷◌, length, drop, take, Some, None, refl, sym, ◌∙◌, ap, subst, arith, length-append, length-drop}
+use Rattle.std.proofs.Common.{ℕ, ◌≡◌, ◌+◌, ◌≤◌, ◌++◌, ◌⊎◌, inl, inr, List, [], length, drop, Some, sym, ◌∙◌, ap, subst, arith, length-append, length-drop}
 use Rattle.std.specs.List.{concat}
-use Rattle.std.proofs.lemmas.Bool.{cases_eq}
 use Rattle.std.proofs.lemmas.Bool.Decides.{nat_tests}
 use Rattle.std.proofs.Math.Seq.{drop-append_seam}
 use Rattle.mac_keys.specs.declared.keys.Key.{Key}
@@ -9,7 +8,7 @@ use Rattle.mac_keys.specs.Digests.{digest_of}
 use Rattle.ntp_trailer.specs.declared.parts.TheConstants.{HEADER_LEN, KEY_ID_LEN}
 use Rattle.ntp_trailer.specs.declared.parts.Mac.{Mac}
 use Rattle.ntp_trailer.specs.declared.parts.Trailer.{Trailer}
-use Rattle.ntp_trailer.specs.Trailers.{HasTrailer, IsTrailer, IsEnd, HasMacLength, mac_at, mac_from, place_after, trailer_of}
+use Rattle.ntp_trailer.specs.Trailers.{HasTrailer, IsTrailer, IsEnd, mac_at, mac_from, place_after}
 use Rattle.ntp_trailer.specs.Authentic.{spelled_mac}
 
 -- a MAC that octets of some length give begins at their place

@@ -73,18 +73,17 @@ mod tests {
 
     #[test]
     fn the_digest_is_of_all_octets_before_the_mac(rt: HostRuntime) -> Result<(), Fail> {
-        let mut keys = KeyTable::new(rt.alloc());
-        keys.add(key_of(7, Algorithm::Md5))?;
-        keys.add(key_of(258, Algorithm::Sha1))?;
+        let (md5, sha1) = (Algorithm::Md5, Algorithm::Sha1);
         let none = b"".as_slice();
         let cases = [
-            ("no MAC", none, none, none, Auth::Absent),
-            ("a zero key id alone", none, &[0; 4], none, Auth::Bad),
-            ("a key id alone", none, &[0, 0, 0, 7], none, Auth::Bad),
-            ("MD5", none, &[0, 0, 0, 7], MD5, Auth::Good(7)),
-            ("SHA-1", none, &[0, 0, 1, 2], SHA1, Auth::Good(258)),
+            ("no MAC", md5, none, none, none, Auth::Absent),
+            ("zeros alone", md5, none, &[0; 4], none, Auth::Bad),
+            ("a key id alone", md5, none, &[0, 0, 1, 2], none, Auth::Bad),
+            ("MD5", md5, none, &[0, 0, 1, 2], MD5, Auth::Good(258)),
+            ("SHA-1", sha1, none, &[0, 0, 1, 2], SHA1, Auth::Good(258)),
             (
                 "SHA-1 over a field",
+                sha1,
                 FIELD,
                 &[0, 0, 1, 2],
                 SHA1_WITH_FIELD,
@@ -92,15 +91,18 @@ mod tests {
             ),
             (
                 "the header's digest behind a field",
+                sha1,
                 FIELD,
                 &[0, 0, 1, 2],
                 SHA1,
                 Auth::Bad,
             ),
-            ("an unknown key", none, &[0, 0, 0, 8], MD5, Auth::Bad),
-            ("the other key", none, &[0, 0, 1, 2], MD5, Auth::Bad),
+            ("an unknown key", md5, none, &[0, 0, 2, 1], MD5, Auth::Bad),
+            ("another hash", sha1, none, &[0, 0, 1, 2], MD5, Auth::Bad),
         ];
-        for (what, field, id, digest, shown) in cases {
+        for (what, algorithm, field, id, digest, shown) in cases {
+            let mut keys = KeyTable::new(rt.alloc());
+            keys.add(key_of(258, algorithm))?;
             let mut packet = Octets::new();
             packet.put(&HEADER);
             for piece in [field, id, digest] {

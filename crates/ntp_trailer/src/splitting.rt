@@ -110,6 +110,7 @@ fn mac_in(place: usize, remainder: &[u8]) -> Mac
 #[cfg(test)]
 mod tests {
     use super::*;
+    use edge_traits::Octets;
 
     const NOTHING: &[u8] = b"";
 
@@ -124,17 +125,15 @@ mod tests {
     const DIGEST_20: &[u8] = b"a digest of twenty..";
 
     // A header of 48 octets, and behind it these pieces end to end.
-    fn split_of(pieces: [&[u8]; 4]) -> Result<Trailer, TrailerFault> {
-        let mut octets = [0x23; 160];
-        let mut used = HEADER_LEN;
+    fn packet_of(pieces: [&[u8]; 4]) -> Octets {
+        let mut packet = Octets::new();
+        packet.put(&[0x23; HEADER_LEN]);
         for piece in pieces {
-            let end = used.saturating_add(piece.len());
-            if end <= 160 {
-                octets[used..end].copy_from_slice(piece);
-                used = end;
+            if packet.len() <= 200 && piece.len() <= 28 {
+                packet.put(piece);
             }
         }
-        split(&octets[..used])
+        packet
     }
 
     #[test]
@@ -192,7 +191,13 @@ mod tests {
         ];
         for (what, pieces, fields_end, mac) in cases {
             let mac = mac.map(|(id, start, length)| Mac { id, start, length });
-            assert_eq!(rt; split_of(pieces), Ok(Trailer { fields_end, mac }), "{what}");
+            let packet = packet_of(pieces);
+            assert!(rt; packet.len() >= HEADER_LEN);
+            assert_eq!(rt;
+                split(packet.as_slice()),
+                Ok(Trailer { fields_end, mac }),
+                "{what}"
+            );
         }
     }
 
@@ -261,7 +266,9 @@ mod tests {
             ),
         ];
         for (what, pieces, fault) in cases {
-            assert_eq!(rt; split_of(pieces), Err(fault), "{what}");
+            let packet = packet_of(pieces);
+            assert!(rt; packet.len() >= HEADER_LEN);
+            assert_eq!(rt; split(packet.as_slice()), Err(fault), "{what}");
         }
     }
 }

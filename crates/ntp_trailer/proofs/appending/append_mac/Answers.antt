@@ -1,4 +1,4 @@
-use Rattle.std.proofs.Common.{◌≡◌, ◌++◌, ◌⊎◌, [], length, sym, subst, ap, ◌∙◌, append_assoc, rules}
+use Rattle.std.proofs.Common.{◌≡◌, ◌++◌, ◌⊎◌, [], length, sym, subst, ◌∙◌, append_assoc, rules}
 use Rattle.byteorder.specs.Endian.{big_bytes}
 use Rattle.mac_keys.specs.Digests.{digest_of}
 use Rattle.ntp_trailer.specs.Trailers.{IsTrailer}
