@@ -1,4 +1,4 @@
-ghost use Rattle.std.specs.Prelude.{◌≡◌, ◌≢◌, ◌≤◌, ◌↔◌, ◌∷◌, [], map, string_bytes, Some};
+ghost use Rattle.std.specs.Prelude.{◌≡◌, ◌≢◌, ◌≤◌, ◌↔◌, ◌⊎◌, ◌∷◌, [], map, string_bytes, Some};
 ghost use Rattle.edge_traits.specs.Told.{gained, GainedFront, Rose};
 ghost use Rattle.ntpd_serve.specs.declared.usage.Notice.{Notice};
 ghost use Rattle.ntpd_serve.specs.Usage.{word_of, notice_text};
@@ -66,6 +66,7 @@ fn notice_in(word: &[u8]) -> Option<Notice>
 /// Prints the notice, and answers the exit status: 0, or 8 where the sink failed, or 9 where it had
 /// no memory.
 pub fn print<S: Sink>(notice: Notice, out: &mut S) -> Status
+    ensures status { (result.0 ≡ 0) ⊎ ((result.0 ≡ 8) ⊎ (result.0 ≡ 9)) }
     ensures whole { result.0 ≡ 0
         → S.contents out.new ≡ gained (S.contents out.old) (notice_text notice) }
     ensures front { result.0 ≢ 0
