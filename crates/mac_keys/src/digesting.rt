@@ -11,7 +11,7 @@ use sha1::Sha1;
 use sha2::{Digest as Sha2Hasher, Sha256};
 
 /// The digest of the key's secret followed by the message: 16 octets for MD5, 20 for SHA-1, and the
-/// first 20 of SHA-256 (RFC 5905, section 7.3, leaves room for no more).
+/// first 20 of SHA-256, since a MAC has 24, 20 or 4 octets (RFC 7822, section 1), and its key id 4.
 pub fn digest(key: &Key, message: &[u8]) -> Digest
     ensures { result ≡ digest_of key.now message.now }
 {

@@ -1,4 +1,4 @@
-ghost use Rattle.std.specs.Prelude.{◌≡◌, ◌+◌, ◌≤◌, ◌++◌, [], length, replicate};
+ghost use Rattle.std.specs.Prelude.{◌≡◌, ◌+◌, ◌≤◌, ◌++◌, ◌⊎◌, [], length, replicate};
 ghost use Rattle.byteorder.specs.Endian.{big_bytes};
 ghost use Rattle.ntp_trailer.specs.Trailers.{IsTrailer};
 ghost use Rattle.ntp_trailer.specs.Authentic.{spelled_mac};
@@ -12,7 +12,8 @@ use mac_keys::{Key, digest};
 pub fn append_mac(key: &Key, packet: &mut Octets)
     requires { length packet.old + MAX_MAC_LEN ≤ MAX_OCTETS }
     ensures spelled { packet.new ≡ packet.old ++ spelled_mac key.now packet.old }
-    ensures at_most { length packet.new ≤ length packet.old + MAX_MAC_LEN }
+    ensures len { (length packet.new ≡ length packet.old + KEY_ID_LEN + 16)
+        ⊎ (length packet.new ≡ length packet.old + KEY_ID_LEN + 20) }
     ensures read_back { length packet.old ≡ HEADER_LEN
         → IsTrailer packet.new [] (spelled_mac key.now packet.old) }
 {
