@@ -2,6 +2,7 @@
 use Rattle.std.proofs.Common.{◌≡◌, ℕ, ◌+◌, Option, Some, None, List, [], ◌∷◌, ◌++◌, append_assoc, replicate, zero, suc, Bool, inl, inr, refl, sym, ap, ◌∙◌, arith}
 use Rattle.std.proofs.lemmas.List.{append-nil, replicate_more}
 use Rattle.fixed_time.specs.declared.time.Ntp64.{Ntp64}
+use Rattle.mac_keys.specs.declared.keys.Key.{Key}
 use Rattle.net_addr.specs.declared.addr.Addr.{Addr}
 use Rattle.edge_traits.specs.Told.{gained, Grows, Rose}
 use Rattle.edge_traits.proofs.ToldLemmas.{gained-gained}
@@ -48,15 +49,15 @@ Grows-Grows (Some old) (Some between) (Some new) first second one two =
     two ∙ ap (λ (told : List ℕ). told ++ second) one ∙ append_assoc old first second
 
 -- what one give of the answer makes of a request
-pub Follows-GivesOne : (origin : Ntp64) (ending : Ending) (from : Addr) (octets answer : List ℕ) (events : List Event) (readings : List ℕ) → IsAnswer origin from octets readings answer → GivesOne ending from answer events → Follows origin ending from octets events readings
-Follows-GivesOne origin (Answered count) from octets answer events readings is gives = (answer, is, gives.0, gives.1)
-Follows-GivesOne origin PortFailed from octets answer events readings is gives = (answer, is, gives)
-Follows-GivesOne origin NoMemory from octets answer events readings is gives = gives
-Follows-GivesOne origin (Silent why) from octets answer events readings is gives = absurd gives
-Follows-GivesOne origin Words from octets answer events readings is gives = absurd gives
-Follows-GivesOne origin HostFailed from octets answer events readings is gives = absurd gives
-Follows-GivesOne origin Quiet from octets answer events readings is gives = absurd gives
-Follows-GivesOne origin Closed from octets answer events readings is gives = absurd gives
+pub Follows-GivesOne : (keys : List Key) (origin : Ntp64) (ending : Ending) (from : Addr) (octets answer : List ℕ) (events : List Event) (readings : List ℕ) → IsAnswer keys origin from octets readings answer → GivesOne ending from answer events → Follows keys origin ending from octets events readings
+Follows-GivesOne keys origin (Answered count) from octets answer events readings is gives = (answer, is, gives.0, gives.1)
+Follows-GivesOne keys origin PortFailed from octets answer events readings is gives = (answer, is, gives)
+Follows-GivesOne keys origin NoMemory from octets answer events readings is gives = gives
+Follows-GivesOne keys origin (Silent why) from octets answer events readings is gives = absurd gives
+Follows-GivesOne keys origin Words from octets answer events readings is gives = absurd gives
+Follows-GivesOne keys origin HostFailed from octets answer events readings is gives = absurd gives
+Follows-GivesOne keys origin Quiet from octets answer events readings is gives = absurd gives
+Follows-GivesOne keys origin Closed from octets answer events readings is gives = absurd gives
 
 -- among silences alone there is no datagram
 no_datagram : (n : ℕ) (before after : List Event) (from : Addr) (octets : List ℕ) → replicate n Silence ≡ before ++ Took from octets ∷ after → ⊥
@@ -72,18 +73,18 @@ unfolding silences
 silences_only n events only (before, from, octets, after, is) = no_datagram n before after from octets (sym only ∙ is)
 
 -- where a datagram came, and neither port nor sink failed, it was served
-pub IsServed-HasCome : (origin : Ntp64) (ending : Ending) (events : List Event) (readings : List ℕ) (status : Status) (faults faults' quiets quiets' : ℕ) (is_closed : Bool) (sink sink' : ℕ) (old new : Option (List ℕ)) → Happens origin ending events readings → Causes ending faults faults' quiets quiets' is_closed → Reports ending status old new → (status.0 ≡ 8 → Rose 1 sink sink') → HasCome events → ¬ Rose 1 faults faults' → ¬ Rose 1 sink sink' → IsServed status
-IsServed-HasCome origin ending events readings status faults faults' quiets quiets' is_closed sink sink' old new happens causes (inr (inl eight, front)) failed came port_well sink_well = absurd (sink_well (failed eight))
-IsServed-HasCome origin ending events readings status faults faults' quiets quiets' is_closed sink sink' old new happens causes (inr (inr nine, front)) failed came port_well sink_well = inr nine
-IsServed-HasCome origin (Answered count) events readings status faults faults' quiets quiets' is_closed sink sink' old new happens causes (inl (is, whole)) failed came port_well sink_well = inl is
-IsServed-HasCome origin (Silent why) events readings status faults faults' quiets quiets' is_closed sink sink' old new happens causes (inl (is, whole)) failed came port_well sink_well = inl is
-IsServed-HasCome origin NoMemory events readings status faults faults' quiets quiets' is_closed sink sink' old new happens causes (inl (is, whole)) failed came port_well sink_well = inr is
-IsServed-HasCome origin PortFailed events readings status faults faults' quiets quiets' is_closed sink sink' old new happens causes (inl (is, whole)) failed came port_well sink_well = absurd (port_well (causes.failed refl))
-IsServed-HasCome origin Quiet events readings status faults faults' quiets quiets' is_closed sink sink' old new (inl comes) causes (inl (is, whole)) failed came port_well sink_well = absurd comes.follows
-IsServed-HasCome origin Quiet events readings status faults faults' quiets quiets' is_closed sink sink' old new (inr (only, none)) causes (inl (is, whole)) failed came port_well sink_well = absurd (silences_only PATIENCE events only came)
-IsServed-HasCome origin Closed events readings status faults faults' quiets quiets' is_closed sink sink' old new (inl comes) causes (inl (is, whole)) failed came port_well sink_well = absurd comes.follows
-IsServed-HasCome origin Closed events readings status faults faults' quiets quiets' is_closed sink sink' old new (inr (only, none)) causes (inl (is, whole)) failed came port_well sink_well = absurd (silences_only only.0 events only.2 came)
-IsServed-HasCome origin Words events readings status faults faults' quiets quiets' is_closed sink sink' old new (inl comes) causes (inl (is, whole)) failed came port_well sink_well = absurd comes.follows
-IsServed-HasCome origin Words events readings status faults faults' quiets quiets' is_closed sink sink' old new (inr (only, none)) causes (inl (is, whole)) failed came port_well sink_well = absurd only
-IsServed-HasCome origin HostFailed events readings status faults faults' quiets quiets' is_closed sink sink' old new (inl comes) causes (inl (is, whole)) failed came port_well sink_well = absurd comes.follows
-IsServed-HasCome origin HostFailed events readings status faults faults' quiets quiets' is_closed sink sink' old new (inr (only, none)) causes (inl (is, whole)) failed came port_well sink_well = absurd only
+pub IsServed-HasCome : (keys : List Key) (origin : Ntp64) (ending : Ending) (events : List Event) (readings : List ℕ) (status : Status) (faults faults' quiets quiets' : ℕ) (is_closed : Bool) (sink sink' : ℕ) (old new : Option (List ℕ)) → Happens keys origin ending events readings → Causes ending faults faults' quiets quiets' is_closed → Reports ending status old new → (status.0 ≡ 8 → Rose 1 sink sink') → HasCome events → ¬ Rose 1 faults faults' → ¬ Rose 1 sink sink' → IsServed status
+IsServed-HasCome keys origin ending events readings status faults faults' quiets quiets' is_closed sink sink' old new happens causes (inr (inl eight, front)) failed came port_well sink_well = absurd (sink_well (failed eight))
+IsServed-HasCome keys origin ending events readings status faults faults' quiets quiets' is_closed sink sink' old new happens causes (inr (inr nine, front)) failed came port_well sink_well = inr nine
+IsServed-HasCome keys origin (Answered count) events readings status faults faults' quiets quiets' is_closed sink sink' old new happens causes (inl (is, whole)) failed came port_well sink_well = inl is
+IsServed-HasCome keys origin (Silent why) events readings status faults faults' quiets quiets' is_closed sink sink' old new happens causes (inl (is, whole)) failed came port_well sink_well = inl is
+IsServed-HasCome keys origin NoMemory events readings status faults faults' quiets quiets' is_closed sink sink' old new happens causes (inl (is, whole)) failed came port_well sink_well = inr is
+IsServed-HasCome keys origin PortFailed events readings status faults faults' quiets quiets' is_closed sink sink' old new happens causes (inl (is, whole)) failed came port_well sink_well = absurd (port_well (causes.failed refl))
+IsServed-HasCome keys origin Quiet events readings status faults faults' quiets quiets' is_closed sink sink' old new (inl comes) causes (inl (is, whole)) failed came port_well sink_well = absurd comes.follows
+IsServed-HasCome keys origin Quiet events readings status faults faults' quiets quiets' is_closed sink sink' old new (inr (only, none)) causes (inl (is, whole)) failed came port_well sink_well = absurd (silences_only PATIENCE events only came)
+IsServed-HasCome keys origin Closed events readings status faults faults' quiets quiets' is_closed sink sink' old new (inl comes) causes (inl (is, whole)) failed came port_well sink_well = absurd comes.follows
+IsServed-HasCome keys origin Closed events readings status faults faults' quiets quiets' is_closed sink sink' old new (inr (only, none)) causes (inl (is, whole)) failed came port_well sink_well = absurd (silences_only only.0 events only.2 came)
+IsServed-HasCome keys origin Words events readings status faults faults' quiets quiets' is_closed sink sink' old new (inl comes) causes (inl (is, whole)) failed came port_well sink_well = absurd comes.follows
+IsServed-HasCome keys origin Words events readings status faults faults' quiets quiets' is_closed sink sink' old new (inr (only, none)) causes (inl (is, whole)) failed came port_well sink_well = absurd only
+IsServed-HasCome keys origin HostFailed events readings status faults faults' quiets quiets' is_closed sink sink' old new (inl comes) causes (inl (is, whole)) failed came port_well sink_well = absurd comes.follows
+IsServed-HasCome keys origin HostFailed events readings status faults faults' quiets quiets' is_closed sink sink' old new (inr (only, none)) causes (inl (is, whole)) failed came port_well sink_well = absurd only

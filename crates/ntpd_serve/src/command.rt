@@ -11,6 +11,7 @@ use crate::ending::Ending;
 use crate::once::{Common, PATIENCE, serve_once};
 use crate::report::report;
 use edge_traits::{Clock, Gate, Host, HostFault, Port, Sink, Status};
+use mac_keys::KeyTable;
 use net_addr::{Addr, read_named};
 use std::alloc::Global;
 use std::sync::Wait;
@@ -49,7 +50,7 @@ pub fn ntpd<R: Threads + Wait, H: Host, S: Sink, G: Gate>(
         × AsksOnce (map string_bytes words.now) at
         × (H.binds host.new ≡ gained (H.binds host.old) (at ∷ []))
         × (H.P.address single.port ≡ at)
-        × Happens (H.origin host.old) ending events readings
+        × Happens [] (H.origin host.old) ending events readings
         × TellsJust (H.P.trace single.port) events
         × TellsJust (H.C.readings single.clock) readings
         × Reports ending result.status (S.contents out.old) (S.contents out.new)
@@ -114,7 +115,7 @@ fn serve<P: Port, C: Clock, S: Sink>(
     requires most { 1024 ≤ P.most single.port }
     ensures served { IsSomeAnd result.single (λ left. (ending : Ending)
         × (events : List Event) × (readings : List ℕ)
-        × Happens common.now.origin ending events readings
+        × Happens common.now.keys common.now.origin ending events readings
         × (P.trace left.port ≡ gained (P.trace single.port) events)
         × Grows (C.readings single.clock) (C.readings left.clock) readings
         × Reports ending result.status (S.contents out.old) (S.contents out.new)
@@ -159,7 +160,7 @@ fn once<H: Host, S: Sink>(alloc: Global, at: &Addr, host: &mut H, out: &mut S) -
         × (events : List Event) × (readings : List ℕ)
         × (H.binds host.new ≡ gained (H.binds host.old) (at.now ∷ []))
         × (H.P.address single.port ≡ at.now)
-        × Happens (H.origin host.old) ending events readings
+        × Happens [] (H.origin host.old) ending events readings
         × TellsJust (H.P.trace single.port) events
         × TellsJust (H.C.readings single.clock) readings
         × Reports ending result.status (S.contents out.old) (S.contents out.new)
@@ -185,6 +186,7 @@ fn once<H: Host, S: Sink>(alloc: Global, at: &Addr, host: &mut H, out: &mut S) -
         Ok(port) => {
             let clock = host.clock();
             let common = Common {
+                keys: KeyTable::new(alloc),
                 salt: host.salt(),
                 origin: host.origin(),
             };

@@ -4,6 +4,7 @@ ghost use Rattle.edge_traits.specs.declared.port.Event.{Event};
 ghost use Rattle.edge_traits.specs.declared.port.Event.TheVariants.{Took};
 ghost use Rattle.sys_vars.specs.Answers.{gram_of};
 ghost use Rattle.sys_vars.specs.Opening.{opening_record};
+ghost use Rattle.server_core.specs.Reply.{HasKey};
 ghost use Rattle.ntpd_serve.specs.Ending.{Reports};
 ghost use Rattle.ntpd_serve.specs.Once.{silences, reply_octets, Follows, Happens, OnlySilences, GivesOne, Causes, HasCome, IsServed};
 
@@ -11,6 +12,7 @@ use crate::ending::Ending;
 use crate::report::report;
 use edge_traits::{Clock, Grams, Octets, Port, PortFault, Salt, Sink, Status, Taken};
 use fixed_time::Ntp64;
+use mac_keys::KeyTable;
 use mode6_frame::{HEAD_LEN, MAX_BODY};
 use net_addr::Addr;
 use server_core::{Ask, Basis, Class, classify, time_reply};
@@ -21,8 +23,10 @@ use sys_vars::{Answer, Asked, Context, Record};
 pub const PATIENCE: u32 = 60;
 
 /// What the parts of a server know in common.
-#[derive(Clone, Copy)]
+#[derive(Drop)]
 pub struct Common {
+    /// The keys of the MACs that it takes and makes.
+    pub keys: KeyTable,
     /// The server's secret.
     pub salt: Salt,
     /// The time at which its clocks begin.
@@ -43,7 +47,7 @@ pub fn serve_once<P: Port, C: Clock, S: Sink>(
     // What happened, and what was printed; and where a datagram came, only a fault of the port or of
     // the sink, or want of memory, keeps it from being served.
     ensures served { (ending : Ending) × (events : List Event) × (readings : List ℕ)
-        × Happens common.now.origin ending events readings
+        × Happens common.now.keys common.now.origin ending events readings
         × (P.trace port.new ≡ gained (P.trace port.old) events)
         × Grows (C.readings clock.old) (C.readings clock.new) readings
         × Reports ending result (S.contents out.old) (S.contents out.new)
@@ -74,7 +78,7 @@ fn answer_one<P: Port, C: Clock>(
 ) -> Ending
     requires most { 1024 ≤ P.most port.old }
     ensures happens { (events : List Event) × (readings : List ℕ)
-        × Happens common.now.origin result events readings
+        × Happens common.now.keys common.now.origin result events readings
         × (P.trace port.new ≡ gained (P.trace port.old) events)
         × Grows (C.readings clock.old) (C.readings clock.new) readings }
     ensures causes { Causes result (P.faults port.old) (P.faults port.new)
@@ -126,7 +130,7 @@ fn answer<P: Port, C: Clock>(
 ) -> Ending
     requires most { 1024 ≤ P.most port.old }
     ensures follows { (events : List Event) × (readings : List ℕ)
-        × Follows common.now.origin result from.now datagram.now events readings
+        × Follows common.now.keys common.now.origin result from.now datagram.now events readings
         × (P.trace port.new ≡ gained (P.trace port.old) events)
         × Grows (C.readings clock.old) (C.readings clock.new) readings }
     ensures causes { Causes result (P.faults port.old) (P.faults port.new)
@@ -136,7 +140,7 @@ fn answer<P: Port, C: Clock>(
     ensures address_kept { P.address port.new ≡ P.address port.old }
 {
     let came = clock.now();
-    match classify(alloc, datagram.as_slice(), from) {
+    match classify(alloc, datagram.as_slice(), from, &common.keys) {
         Err(_) => Ending::NoMemory,
         Ok(Class::Silent(why)) => Ending::Silent(why),
         Ok(Class::Time(ask)) => {
@@ -181,15 +185,16 @@ fn control_answer(
 
 /// The reply to a request, from the opening record.
 fn reply(common: &Common, ask: &Ask, came: u64, sent: u64) -> Octets
-    ensures value { result ≡ reply_octets common.now.origin ask.now came sent }
-    ensures short { length result ≡ 48 }
+    requires key { HasKey common.now.keys ask.now.auth }
+    ensures value { result ≡ reply_octets common.now.origin ask.now common.now.keys came sent }
+    ensures short { length result ≤ 72 }
 {
     let record = Record::opening(common.origin);
     let basis = Basis {
         system: record.system,
         clock: record.clock,
     };
-    time_reply(&basis, ask, came, sent)
+    time_reply(&basis, ask, &common.keys, came, sent)
 }
 
 /// Gives an answer of one datagram.

@@ -6,6 +6,7 @@ use edge_traits::{
     Status, Taken, UdpPort,
 };
 use fixed_time::Ntp64;
+use mac_keys::{KeyTable, read_keys};
 use net_addr::{Addr, Ip};
 use std::alloc::{AllocError, Global};
 use std::process::Abort;
@@ -36,6 +37,27 @@ const REPLY: [u8; 48] = [
     0, 0, 0, 0,
 ];
 
+/// The key with id 7 and the secret `secret`, for MD5.
+const KEY_FILE: &[u8] = b"7 MD5 secret";
+
+/// The MAC of REQUEST with this key, by Python's hashlib.
+const MAC: [u8; 20] = *b"\x00\x00\x00\x07\
+    \x76\x8a\x48\x46\xbd\x50\xba\x51\xeb\x05\xb0\xfa\xe4\x23\xe4\xba";
+
+/// That of REPLY, by the same.
+const REPLY_MAC: [u8; 20] = *b"\x00\x00\x00\x07\
+    \xa2\x7f\xec\xd7\x0a\x9e\x37\x05\xd6\x16\x84\x4d\x71\xfa\x91\xcb";
+
+/// An extension field.
+const FIELD: [u8; 16] = *b"\x00\x02\x00\x10field of 16.";
+
+/// The MAC of REQUEST and FIELD, by the same.
+const MAC_WITH_FIELD: [u8; 20] = *b"\x00\x00\x00\x07\
+    \xb5\xa6\xdd\xca\xa0\x81\x8f\x48\x0d\xb9\x44\x4e\x4c\x0d\x42\x5b";
+
+/// A crypto-NAK (RFC 5905, section 9.2).
+const NAK: [u8; 4] = [0; 4];
+
 /// A control request: read the variable `stratum`, version 2, sequence 1.
 const READ_STRATUM: [u8; 20] = *b"\x16\x02\x00\x01\x00\x00\x00\x00\x00\x00\x00\x07stratum\x00";
 
@@ -47,6 +69,19 @@ fn octets_of(bytes: &[u8]) -> Octets {
     for byte in bytes {
         if octets.len() < 2048 {
             octets.push(*byte);
+        }
+    }
+    octets
+}
+
+/// The request with these pieces behind it, end to end.
+fn behind_request(pieces: &[&[u8]]) -> Octets {
+    let mut octets = octets_of(&REQUEST);
+    for piece in pieces {
+        for byte in *piece {
+            if octets.len() < 2048 {
+                octets.push(*byte);
+            }
         }
     }
     octets
@@ -143,6 +178,8 @@ fn a_request_gets_the_reply_of_a_server_that_knows_no_time(rt: HostRuntime) -> R
 fn what_is_no_request_gets_no_answer(rt: HostRuntime) -> Result<(), Fail> {
     let mut longer = [0u8; 56];
     longer[..48].copy_from_slice(&REQUEST);
+    let short_field = behind_request(&[b"\x00\x01\x00\x0c", &[0; 24]]);
+    let long_field = behind_request(&[b"\x00\x01\x00\x20", &[0; 24]]);
     let mut zero = REQUEST;
     zero[0] = 0x03;
     let mut five = REQUEST;
@@ -155,8 +192,10 @@ fn what_is_no_request_gets_no_answer(rt: HostRuntime) -> Result<(), Fail> {
         (&REQUEST[..47], "silent packet 1\n"),
         (&zero[..], "silent packet 2\n"),
         (&five[..], "silent packet 2\n"),
+        (&longer[..51], "silent trailer 1\n"),
+        (short_field.as_slice(), "silent trailer 2\n"),
+        (long_field.as_slice(), "silent trailer 3\n"),
         (&longer[..], "silent trailer 4\n"),
-        (&longer[..49], "silent trailer 4\n"),
         (&broadcast[..], "silent unserved 5\n"),
         (&REPLY[..], "silent unserved 4\n"),
         (&[0x27], "silent unserved 7\n"),
@@ -175,6 +214,80 @@ fn what_is_no_request_gets_no_answer(rt: HostRuntime) -> Result<(), Fail> {
         )?;
         check_run(&rt, &run, 0, printed, 0, printed);
     }
+    Ok(())
+}
+
+/// The reply of a server with these keys to one datagram, and what was printed.
+fn serve_with(
+    alloc: Global,
+    keys: KeyTable,
+    datagram: &Octets,
+) -> Result<(Octets, MemorySink), AllocError> {
+    let mut port = MemoryPort::of(alloc, one(alloc, datagram.as_slice())?, Vec::new(alloc));
+    let mut clock = MemoryClock::of(vec![in alloc; SECOND]?);
+    let mut out = MemorySink::of(alloc, Vec::new(alloc));
+    let common = Common {
+        keys,
+        salt: Salt([0; 16]),
+        origin: ORIGIN,
+    };
+    let _status = serve_once(alloc, &mut port, &mut clock, &common, &mut out);
+    let mut reply = Octets::new();
+    for event in port.events() {
+        if let Event::Sent(_, octets) = event {
+            reply = octets.copy();
+        }
+    }
+    Ok((reply, out))
+}
+
+#[test]
+fn the_mac_of_a_request_decides_what_ends_the_reply(rt: HostRuntime) -> Result<(), Fail> {
+    let mut one_bit = MAC;
+    one_bit[19] ^= 1;
+    let mut unknown = MAC;
+    unknown[3] = 8;
+    let none = b"".as_slice();
+    let cases = [
+        ("no MAC", none, none, none),
+        ("a good MAC", none, MAC.as_slice(), REPLY_MAC.as_slice()),
+        (
+            "a good MAC behind a field",
+            &FIELD,
+            &MAC_WITH_FIELD,
+            &REPLY_MAC,
+        ),
+        ("the MAC of the header alone", &FIELD, &MAC, &NAK),
+        ("another bit", none, &one_bit, &NAK),
+        ("an unknown key", none, &unknown, &NAK),
+        ("a key id alone", none, &MAC[..4], &NAK),
+        ("a crypto-NAK", none, &NAK, &NAK),
+    ];
+    for (what, field, mac, end) in cases {
+        let keys = read_keys(rt.alloc(), KEY_FILE).ok().ok_or("the key")?;
+        let (reply, out) = serve_with(rt.alloc(), keys, &behind_request(&[field, mac]))?;
+        assert_eq!(rt; out.contents(), b"answered 1\n".as_slice(), "{what}");
+        assert_eq!(rt; reply.len(), 48 + end.len(), "{what}");
+        assert_eq!(rt; &reply.as_slice()[..48], REPLY.as_slice(), "{what}");
+        assert_eq!(rt; &reply.as_slice()[48..], end, "{what}");
+    }
+    Ok(())
+}
+
+#[test]
+fn once_knows_no_keys(rt: HostRuntime) -> Result<(), Fail> {
+    let run = run_over(
+        &rt,
+        rt.alloc(),
+        &["once", "127.0.0.1:123"],
+        one(rt.alloc(), behind_request(&[&MAC]).as_slice())?,
+        Vec::new(rt.alloc()),
+        Vec::new(rt.alloc()),
+    )?;
+    check_run(&rt, &run, 0, "answered 1\n", 1, "a request with a MAC");
+    let (_, reply) = given(&run);
+    assert_eq!(rt; reply.len(), 52);
+    assert_eq!(rt; &reply.as_slice()[48..], NAK.as_slice());
     Ok(())
 }
 
@@ -415,6 +528,7 @@ fn requests_on_a_real_socket_are_answered(rt: HostRuntime) -> Result<(), Fail> {
     let mut client = UdpPort::bind(&rt, &any)?;
     let at = server.local().ok_or("the server's own address")?;
     let common = Common {
+        keys: KeyTable::new(rt.alloc()),
         salt: Salt([0; 16]),
         origin: ORIGIN,
     };

@@ -1,13 +1,19 @@
 -- A datagram has one class.
-use Rattle.std.proofs.Common.{◌≡◌, ◌≢◌, ◌≤◌, ℕ, List, [], ◌∷◌, length, None, Some, refl, sym, ap, subst, ℤ, ◌∙◌, inl, inr, arith, Bool, true, false, ◌==◌, ◌<◌, ◌⊎◌}
+use Rattle.std.proofs.Common.{◌≡◌, ◌≢◌, ◌≤◌, ℕ, List, [], ◌∷◌, length, None, Some, ◌↔◌, refl, sym, ap, subst, ℤ, ◌∙◌, inl, inr, arith, Bool, true, false, ◌==◌, ◌<◌, ◌⊎◌}
 use Rattle.std.proofs.Math.Bridge.{le_prop}
 use Rattle.std.proofs.lemmas.Bool.Decides.{nat_tests}
 use Rattle.fixed_time.specs.declared.time.Ntp64.{Ntp64}
 use Rattle.net_addr.specs.declared.addr.Addr.{Addr}
+use Rattle.mac_keys.specs.declared.checking.Auth.{Auth}
+use Rattle.mac_keys.specs.declared.checking.Auth.TheVariants.{Absent, Good, Bad}
+use Rattle.mac_keys.specs.declared.keys.Key.{Key}
 use Rattle.ntp_packet.specs.declared.packet.Header.{Header}
 use Rattle.ntp_packet.specs.declared.packet.PacketFault.{PacketFault}
-use Rattle.ntp_packet.specs.declared.packet.TheConstants.{HEADER_LEN}
 use Rattle.ntp_packet.specs.Packet.{IsPacket, fault_of, mode_of}
+use Rattle.ntp_trailer.specs.declared.parts.Trailer.{Trailer as FieldsAndMac}
+use Rattle.ntp_trailer.specs.declared.parts.TrailerFault.{TrailerFault}
+use Rattle.ntp_trailer.specs.Trailers.{HasTrailer, IsRefused}
+use Rattle.ntp_trailer.specs.Authentic.{IsAuth, IsAuthenticTrailer}
 use Rattle.mode6_frame.specs.declared.message.FrameFault.{FrameFault}
 use Rattle.mode6_frame.specs.Frames.{FrameParts, IsFrame, frame_fault_of}
 use Rattle.sys_vars.specs.declared.asked.Asked.{Asked}
@@ -16,7 +22,7 @@ use Rattle.server_core.specs.declared.class.Ask.{Ask}
 use Rattle.server_core.specs.declared.class.Class.{Class}
 use Rattle.server_core.specs.declared.class.Class.TheVariants.{Silent, Time, Look}
 use Rattle.server_core.specs.declared.class.Unheard.TheVariants.{Packet, Trailer, Frame, Unserved, NotRequest}
-use Rattle.server_core.specs.Class.{IsClass, IsAskOf, packet_number}
+use Rattle.server_core.specs.Class.{IsClass, IsAskOf, IsTimeRequest, packet_number, trailer_number}
 use Rattle.server_core.specs.Control.{IsRequest, IsAskedOf, frame_number, has_answer_bit}
 use Rattle.server_core.proofs.ControlLemmas.{frame_mode}
 
@@ -37,102 +43,128 @@ not_both : (octets : List ℕ) → mode_of octets ≡ MODE_CLIENT → ¬ (mode_o
 not_both octets client control = absurd (omega (arith, client, control))
 
 -- what is empty is that and nothing else
-pub only_empty : (octets : List ℕ) (from : Addr) → octets ≡ [] → (class : Class) → IsClass octets from class → Silent (Packet 1) ≡ class
-only_empty octets from empty (Silent (Packet number)) (inl is) = ap (λ n. Silent (Packet n)) (sym is.1)
-only_empty octets from empty (Silent (Packet number)) (inr refused) = absurd (client_is_some octets refused.0 empty)
-only_empty octets from empty (Silent (Trailer number)) long = absurd (client_is_some octets long.0.1.client empty)
-only_empty octets from empty (Silent (Frame number)) refused = absurd (control_is_some octets refused.0 empty)
-only_empty octets from empty (Silent (Unserved mode)) unserved = absurd (unserved.0 empty)
-only_empty octets from empty (Silent NotRequest) answer = absurd (control_is_some octets (frame_mode octets answer.0 answer.1) empty)
-only_empty octets from empty (Time ask) request = absurd (client_is_some octets request.1.client empty)
-only_empty octets from empty (Look asked) look = absurd (control_is_some octets (frame_mode octets look.0 look.1.frame) empty)
+pub only_empty : (octets : List ℕ) (from : Addr) (keys : List Key) → octets ≡ [] → (class : Class) → IsClass octets from keys class → Silent (Packet 1) ≡ class
+only_empty octets from keys empty (Silent (Packet number)) (inl is) = ap (λ n. Silent (Packet n)) (sym is.1)
+only_empty octets from keys empty (Silent (Packet number)) (inr refused) = absurd (client_is_some octets refused.0 empty)
+only_empty octets from keys empty (Silent (Trailer number)) long = absurd (client_is_some octets long.0.1.client empty)
+only_empty octets from keys empty (Silent (Frame number)) refused = absurd (control_is_some octets refused.0 empty)
+only_empty octets from keys empty (Silent (Unserved mode)) unserved = absurd (unserved.0 empty)
+only_empty octets from keys empty (Silent NotRequest) answer = absurd (control_is_some octets (frame_mode octets answer.0 answer.1) empty)
+only_empty octets from keys empty (Time ask) request = absurd (client_is_some octets request.packet.client empty)
+only_empty octets from keys empty (Look asked) look = absurd (control_is_some octets (frame_mode octets look.0 look.1.frame) empty)
 
 -- what is of another mode is that and nothing else
-pub only_unserved : (octets : List ℕ) (from : Addr) (mode : ℕ) → octets ≢ [] → mode ≡ mode_of octets → mode ≢ MODE_CLIENT → mode ≢ MODE_CONTROL
-    → (class : Class) → IsClass octets from class → Silent (Unserved mode) ≡ class
-only_unserved octets from mode some is other no_control (Silent (Packet number)) (inl empty) = absurd (some empty.0)
-only_unserved octets from mode some is other no_control (Silent (Packet number)) (inr short) = absurd (other (is ∙ short.0))
-only_unserved octets from mode some is other no_control (Silent (Trailer number)) long = absurd (other (is ∙ long.0.1.client))
-only_unserved octets from mode some is other no_control (Silent (Frame number)) refused = absurd (no_control (is ∙ refused.0))
-only_unserved octets from mode some is other no_control (Silent (Unserved its)) unserved = ap (λ m. Silent (Unserved m)) (is ∙ sym unserved.1)
-only_unserved octets from mode some is other no_control (Silent NotRequest) answer = absurd (no_control (is ∙ frame_mode octets answer.0 answer.1))
-only_unserved octets from mode some is other no_control (Time ask) request = absurd (other (is ∙ request.1.client))
-only_unserved octets from mode some is other no_control (Look asked) look = absurd (no_control (is ∙ frame_mode octets look.0 look.1.frame))
+pub only_unserved : (octets : List ℕ) (from : Addr) (keys : List Key) (mode : ℕ) → octets ≢ [] → mode ≡ mode_of octets → mode ≢ MODE_CLIENT → mode ≢ MODE_CONTROL
+    → (class : Class) → IsClass octets from keys class → Silent (Unserved mode) ≡ class
+only_unserved octets from keys mode some is other no_control (Silent (Packet number)) (inl empty) = absurd (some empty.0)
+only_unserved octets from keys mode some is other no_control (Silent (Packet number)) (inr short) = absurd (other (is ∙ short.0))
+only_unserved octets from keys mode some is other no_control (Silent (Trailer number)) long = absurd (other (is ∙ long.0.1.client))
+only_unserved octets from keys mode some is other no_control (Silent (Frame number)) refused = absurd (no_control (is ∙ refused.0))
+only_unserved octets from keys mode some is other no_control (Silent (Unserved its)) unserved = ap (λ m. Silent (Unserved m)) (is ∙ sym unserved.1)
+only_unserved octets from keys mode some is other no_control (Silent NotRequest) answer = absurd (no_control (is ∙ frame_mode octets answer.0 answer.1))
+only_unserved octets from keys mode some is other no_control (Time ask) request = absurd (other (is ∙ request.packet.client))
+only_unserved octets from keys mode some is other no_control (Look asked) look = absurd (no_control (is ∙ frame_mode octets look.0 look.1.frame))
 
--- a class of a client's packet: what is refused, what is too long, or a request for the time
-abbrev IsClientClass : List ℕ → Addr → Class → Type 0
-IsClientClass octets from class =
+-- a class of a client's packet: what is refused, or refused behind the header, or a request for the time
+abbrev IsClientClass : List ℕ → Addr → List Key → Class → Type 0
+IsClientClass octets from keys class =
     ((fault : PacketFault) × (fault_of octets ≡ Some fault) × (class ≡ Silent (Packet (packet_number fault))))
-    ⊎ (((h : Header) × IsPacket octets h × (HEADER_LEN < length octets) × (class ≡ Silent (Trailer 4)))
-    ⊎ ((h : Header) × (ask : Ask) × IsPacket octets h × (length octets ≡ HEADER_LEN) × IsAskOf h from ask × (class ≡ Time ask)))
+    ⊎ (((h : Header) × IsPacket octets h × (fault : TrailerFault) × IsRefused octets fault × (class ≡ Silent (Trailer (trailer_number fault))))
+    ⊎ ((ask : Ask) × IsTimeRequest octets from keys ask × (class ≡ Time ask)))
 
 -- a client's packet has one of these
-client_class : (octets : List ℕ) (from : Addr) → mode_of octets ≡ MODE_CLIENT → (class : Class) → IsClass octets from class → IsClientClass octets from class
-client_class octets from client (Silent (Packet number)) (inl empty) = absurd (client_is_some octets client empty.0)
-client_class octets from client (Silent (Packet number)) (inr (_, (fault, refused, is))) = inl (fault, refused, ap (λ n. Silent (Packet n)) is)
-client_class octets from client (Silent (Trailer number)) ((h, packet), long, is) = inr (inl (h, packet.packet, long, ap (λ n. Silent (Trailer n)) is))
-client_class octets from client (Silent (Frame number)) refused = absurd (not_both octets client refused.0)
-client_class octets from client (Silent (Unserved mode)) unserved = absurd (unserved.2 (unserved.1 ∙ client))
-client_class octets from client (Silent NotRequest) answer = absurd (not_both octets client (frame_mode octets answer.0 answer.1))
-client_class octets from client (Time ask) (h, packet, alone, is) = inr (inr (h, ask, packet.packet, alone, is, refl))
-client_class octets from client (Look asked) look = absurd (not_both octets client (frame_mode octets look.0 look.1.frame))
+client_class : (octets : List ℕ) (from : Addr) (keys : List Key) → mode_of octets ≡ MODE_CLIENT → (class : Class) → IsClass octets from keys class → IsClientClass octets from keys class
+client_class octets from keys client (Silent (Packet number)) (inl empty) = absurd (client_is_some octets client empty.0)
+client_class octets from keys client (Silent (Packet number)) (inr (_, (fault, refused, is))) = inl (fault, refused, ap (λ n. Silent (Packet n)) is)
+client_class octets from keys client (Silent (Trailer number)) ((h, packet), (fault, refused, is)) = inr (inl (h, packet.packet, fault, refused, ap (λ n. Silent (Trailer n)) is))
+client_class octets from keys client (Silent (Frame number)) refused = absurd (not_both octets client refused.0)
+client_class octets from keys client (Silent (Unserved mode)) unserved = absurd (unserved.2 (unserved.1 ∙ client))
+client_class octets from keys client (Silent NotRequest) answer = absurd (not_both octets client (frame_mode octets answer.0 answer.1))
+client_class octets from keys client (Time ask) request = inr (inr (ask, request, refl))
+client_class octets from keys client (Look asked) look = absurd (not_both octets client (frame_mode octets look.0 look.1.frame))
 
 -- an ask by its parts
-abbrev ask_of : (from : Addr) (version : ℕ) (poll : ℤ) (transmit : Ntp64) → 1 ≤ version → version ≤ 4 → Ask
-ask_of from version poll transmit least most =
-    record { from = from; version = version; poll = poll; transmit = transmit; version_least = least; version_most = most }
+abbrev ask_of : (from : Addr) (version : ℕ) (poll : ℤ) (transmit : Ntp64) (auth : Auth) → 1 ≤ version → version ≤ 4 → Ask
+ask_of from version poll transmit auth least most =
+    record { from = from; version = version; poll = poll; transmit = transmit; auth = auth; version_least = least; version_most = most }
 
 -- asks of one version are equal where their other parts are
-same_but_for_proofs : (from : Addr) (v w : ℕ) (poll : ℤ) (transmit : Ntp64) → v ≡ w → (l : 1 ≤ v) (m : v ≤ 4) (l' : 1 ≤ w) (m' : w ≤ 4) → ask_of from v poll transmit l m ≡ ask_of from w poll transmit l' m'
-same_but_for_proofs from v w poll transmit e l m =
-    subst (λ (u : ℕ). (l' : 1 ≤ u) (m' : u ≤ 4) → ask_of from v poll transmit l m ≡ ask_of from u poll transmit l' m') e
-    (λ l' m'. ap (λ (p : 1 ≤ v). ask_of from v poll transmit p m) (le_prop l l') ∙ ap (λ (p : v ≤ 4). ask_of from v poll transmit l' p) (le_prop m m'))
+same_but_for_proofs : (from : Addr) (v w : ℕ) (poll : ℤ) (transmit : Ntp64) (auth : Auth) → v ≡ w → (l : 1 ≤ v) (m : v ≤ 4) (l' : 1 ≤ w) (m' : w ≤ 4) → ask_of from v poll transmit auth l m ≡ ask_of from w poll transmit auth l' m'
+same_but_for_proofs from v w poll transmit auth e l m =
+    subst (λ (u : ℕ). (l' : 1 ≤ u) (m' : u ≤ 4) → ask_of from v poll transmit auth l m ≡ ask_of from u poll transmit auth l' m') e
+    (λ l' m'. ap (λ (p : 1 ≤ v). ask_of from v poll transmit auth p m) (le_prop l l') ∙ ap (λ (p : v ≤ 4). ask_of from v poll transmit auth l' p) (le_prop m m'))
 
--- one header makes one ask
-ask_same : (h : Header) (from : Addr) (a b : Ask) → IsAskOf h from a → IsAskOf h from b → a ≡ b
-ask_same h from a b first second =
+-- one header and what its MAC shows make one ask
+ask_same : (h : Header) (from : Addr) (auth : Auth) (a b : Ask) → IsAskOf h from auth a → IsAskOf h from auth b → a ≡ b
+ask_same h from auth a b first second =
     let from_is : a.from ≡ b.from = cc in
     let version_is : a.version ≡ b.version = cc in
     let poll_is : a.poll ≡ b.poll = cc in
     let transmit_is : a.transmit ≡ b.transmit = cc in
-    ap (λ (f : Addr). ask_of f a.version a.poll a.transmit a.version_least a.version_most) from_is
-    ∙ ap (λ (p : ℤ). ask_of b.from a.version p a.transmit a.version_least a.version_most) poll_is
-    ∙ ap (λ (t : Ntp64). ask_of b.from a.version b.poll t a.version_least a.version_most) transmit_is
-    ∙ same_but_for_proofs b.from a.version b.version b.poll b.transmit version_is a.version_least a.version_most b.version_least b.version_most
+    let auth_is : a.auth ≡ b.auth = cc in
+    ap (λ (f : Addr). ask_of f a.version a.poll a.transmit a.auth a.version_least a.version_most) from_is
+    ∙ ap (λ (p : ℤ). ask_of b.from a.version p a.transmit a.auth a.version_least a.version_most) poll_is
+    ∙ ap (λ (t : Ntp64). ask_of b.from a.version b.poll t a.auth a.version_least a.version_most) transmit_is
+    ∙ ap (λ (u : Auth). ask_of b.from a.version b.poll b.transmit u a.version_least a.version_most) auth_is
+    ∙ same_but_for_proofs b.from a.version b.version b.poll b.transmit b.auth version_is a.version_least a.version_most b.version_least b.version_most
+
+-- what is answered exactly where a MAC is missing, good or bad is what the MAC shows
+pub IsAuth-answered : (keys : List Key) (octets : List ℕ) (trailer : FieldsAndMac) (answer : Auth) → ((answer ≡ Absent) ↔ (trailer.mac ≡ None)) → ((id : ℕ) → ((answer ≡ Good id) ↔ IsAuthenticTrailer keys octets trailer id))
+    → ((answer ≡ Bad) ↔ (¬ (trailer.mac ≡ None) × ((id : ℕ) → ¬ (IsAuthenticTrailer keys octets trailer id))))
+    → IsAuth keys octets trailer answer
+IsAuth-answered keys octets trailer Absent absent good bad = absent.0 refl
+IsAuth-answered keys octets trailer (Good id) absent good bad = (good id).0 refl
+IsAuth-answered keys octets trailer Bad absent good bad = bad.0 refl
+
+-- and nothing else is
+pub IsAuth-only : (keys : List Key) (octets : List ℕ) (trailer : FieldsAndMac) (answer other : Auth) → ((answer ≡ Absent) ↔ (trailer.mac ≡ None)) → ((id : ℕ) → ((answer ≡ Good id) ↔ IsAuthenticTrailer keys octets trailer id))
+    → ((answer ≡ Bad) ↔ (¬ (trailer.mac ≡ None) × ((id : ℕ) → ¬ (IsAuthenticTrailer keys octets trailer id))))
+    → IsAuth keys octets trailer other → answer ≡ other
+IsAuth-only keys octets trailer answer Absent absent good bad is = absent.1 is
+IsAuth-only keys octets trailer answer (Good id) absent good bad is = (good id).1 is
+IsAuth-only keys octets trailer answer Bad absent good bad is = bad.1 is
 
 -- what is refused as a packet is that and nothing else
-pub only_packet : (octets : List ℕ) (from : Addr) (fault : PacketFault) (number : ℕ) → number ≡ packet_number fault → mode_of octets ≡ MODE_CLIENT → fault_of octets ≡ Some fault → ((h : Header) → ¬ IsPacket octets h)
-    → (class : Class) → IsClass octets from class → Silent (Packet number) ≡ class
-only_packet octets from fault number is_number client refused none class is = by_class (client_class octets from client class is)
+pub only_packet : (octets : List ℕ) (from : Addr) (keys : List Key) (fault : PacketFault) (number : ℕ) → number ≡ packet_number fault → mode_of octets ≡ MODE_CLIENT → fault_of octets ≡ Some fault → ((h : Header) → ¬ IsPacket octets h)
+    → (class : Class) → IsClass octets from keys class → Silent (Packet number) ≡ class
+only_packet octets from keys fault number is_number client refused none class is = by_class (client_class octets from keys client class is)
   where
-    by_class : IsClientClass octets from class → Silent (Packet number) ≡ class
+    by_class : IsClientClass octets from keys class → Silent (Packet number) ≡ class
     by_class (inl (other, other_refused, its)) =
         let faults : Some fault ≡ Some other = sym refused ∙ other_refused in
         let same : fault ≡ other = cc in
         ap (λ n. Silent (Packet n)) (is_number ∙ ap (λ (f : PacketFault). packet_number f) same) ∙ sym its
-    by_class (inr (inl (h, packet, _, _))) = absurd (none h packet)
-    by_class (inr (inr (h, _, packet, _, _, _))) = absurd (none h packet)
+    by_class (inr (inl (h, packet, _, _, _))) = absurd (none h packet)
+    by_class (inr (inr (_, request, _))) = absurd (none request.header request.packet.packet)
 
--- what has more than a header is that and nothing else
-pub only_trailer : (octets : List ℕ) (from : Addr) → mode_of octets ≡ MODE_CLIENT → fault_of octets ≡ None → HEADER_LEN < length octets
-    → (class : Class) → IsClass octets from class → Silent (Trailer 4) ≡ class
-only_trailer octets from client good long class is = by_class (client_class octets from client class is)
+-- what is refused behind the header is that and nothing else
+pub only_trailer : (octets : List ℕ) (from : Addr) (keys : List Key) (fault : TrailerFault) (number : ℕ) → number ≡ trailer_number fault → mode_of octets ≡ MODE_CLIENT → fault_of octets ≡ None
+    → ((trailer : FieldsAndMac) → ¬ HasTrailer octets trailer) → ((other : TrailerFault) → IsRefused octets other → fault ≡ other)
+    → (class : Class) → IsClass octets from keys class → Silent (Trailer number) ≡ class
+only_trailer octets from keys fault number is_number client good none due class is = by_class (client_class octets from keys client class is)
   where
-    by_class : IsClientClass octets from class → Silent (Trailer 4) ≡ class
-    by_class (inl (fault, refused, _)) = absurd (cc (good, refused))
-    by_class (inr (inl (_, _, _, its))) = sym its
-    by_class (inr (inr (_, _, _, alone, _, _))) = absurd (omega (arith, long, alone))
+    by_class : IsClientClass octets from keys class → Silent (Trailer number) ≡ class
+    by_class (inl (other, refused, _)) = absurd (cc (good, refused))
+    by_class (inr (inl (_, _, other, refused, its))) =
+        ap (λ n. Silent (Trailer n)) (is_number ∙ ap (λ (f : TrailerFault). trailer_number f) (due other refused)) ∙ sym its
+    by_class (inr (inr (_, request, _))) = absurd (none request.trailer request.follows)
 
--- what is read as a client's header alone is that request and nothing else
-pub only_time : (octets : List ℕ) (from : Addr) (h : Header) (ask : Ask) → ((other : Header) → IsPacket octets other → h ≡ other) → fault_of octets ≡ None → mode_of octets ≡ MODE_CLIENT → length octets ≤ HEADER_LEN → IsAskOf h from ask → (class : Class) → IsClass octets from class → Time ask ≡ class
-only_time octets from h ask one good client short is class is_class = by_class (client_class octets from client class is_class)
+-- what is read as a client's header, fields and MAC is that request and nothing else
+pub only_time : (octets : List ℕ) (from : Addr) (keys : List Key) (h : Header) (trailer : FieldsAndMac) (auth : Auth) (ask : Ask) → mode_of octets ≡ MODE_CLIENT → fault_of octets ≡ None → ((other : Header) → IsPacket octets other → h ≡ other)
+    → ((other : FieldsAndMac) → HasTrailer octets other → trailer ≡ other) → ((fault : TrailerFault) → ¬ IsRefused octets fault)
+    → ((other : Auth) → IsAuth keys octets trailer other → auth ≡ other) → IsAskOf h from auth ask → (class : Class) → IsClass octets from keys class → Time ask ≡ class
+only_time octets from keys h trailer auth ask client good one only none shown is class is_class = by_class (client_class octets from keys client class is_class)
   where
-    by_class : IsClientClass octets from class → Time ask ≡ class
+    by_class : IsClientClass octets from keys class → Time ask ≡ class
     by_class (inl (fault, refused, _)) = absurd (cc (good, refused))
-    by_class (inr (inl (_, _, long, _))) = absurd (omega (arith, short, long))
-    by_class (inr (inr (k, other, packet, _, is_other, its))) =
-        let same : h ≡ k = one k packet in
-        ap Time (ask_same h from ask other is (subst (λ (g : Header). IsAskOf g from other) (sym same) is_other)) ∙ sym its
+    by_class (inr (inl (_, _, fault, refused, _))) = absurd (none fault refused)
+    by_class (inr (inr (other, request, its))) =
+        let header : h ≡ request.header = one request.header request.packet.packet in
+        let behind : trailer ≡ request.trailer = only request.trailer request.follows in
+        let auths : auth ≡ request.auth = shown request.auth (subst (λ (t : FieldsAndMac). IsAuth keys octets t request.auth) (sym behind) request.shown) in
+        let of_header = subst (λ (g : Header). IsAskOf g from request.auth other) (sym header) request.is in
+        let of_both = subst (λ (a : Auth). IsAskOf h from a other) (sym auths) of_header in
+        ap Time (ask_same h from auth ask other is of_both) ∙ sym its
 
 -- a class of a control message: what is refused, what is no request, or what it asks for
 abbrev IsControlClass : List ℕ → Addr → Class → Type 0
@@ -142,21 +174,21 @@ IsControlClass octets from class =
     ⊎ ((f : FrameParts) × (asked : Asked) × IsRequest octets f × IsAskedOf f from asked × (class ≡ Look asked)))
 
 -- a control message has one of these
-control_class : (octets : List ℕ) (from : Addr) → mode_of octets ≡ MODE_CONTROL → (class : Class) → IsClass octets from class → IsControlClass octets from class
-control_class octets from control (Silent (Packet number)) (inl empty) = absurd (control_is_some octets control empty.0)
-control_class octets from control (Silent (Packet number)) (inr refused) = absurd (not_both octets refused.0 control)
-control_class octets from control (Silent (Trailer number)) long = absurd (not_both octets long.0.1.client control)
-control_class octets from control (Silent (Frame number)) (_, (fault, refused, is)) = inl (fault, refused, ap (λ n. Silent (Frame n)) is)
-control_class octets from control (Silent (Unserved mode)) unserved = absurd (unserved.3 (unserved.1 ∙ control))
-control_class octets from control (Silent NotRequest) (f, frame, answer) = inr (inl (f, frame, answer, refl))
-control_class octets from control (Time ask) request = absurd (not_both octets request.1.client control)
-control_class octets from control (Look asked) (f, request, is) = inr (inr (f, asked, request, is, refl))
+control_class : (octets : List ℕ) (from : Addr) (keys : List Key) → mode_of octets ≡ MODE_CONTROL → (class : Class) → IsClass octets from keys class → IsControlClass octets from class
+control_class octets from keys control (Silent (Packet number)) (inl empty) = absurd (control_is_some octets control empty.0)
+control_class octets from keys control (Silent (Packet number)) (inr refused) = absurd (not_both octets refused.0 control)
+control_class octets from keys control (Silent (Trailer number)) long = absurd (not_both octets long.0.1.client control)
+control_class octets from keys control (Silent (Frame number)) (_, (fault, refused, is)) = inl (fault, refused, ap (λ n. Silent (Frame n)) is)
+control_class octets from keys control (Silent (Unserved mode)) unserved = absurd (unserved.3 (unserved.1 ∙ control))
+control_class octets from keys control (Silent NotRequest) (f, frame, answer) = inr (inl (f, frame, answer, refl))
+control_class octets from keys control (Time ask) request = absurd (not_both octets request.packet.client control)
+control_class octets from keys control (Look asked) (f, request, is) = inr (inr (f, asked, request, is, refl))
 
 -- what is a request is that and nothing else
-pub only_look : (octets : List ℕ) (from : Addr) (f : FrameParts) (asked : Asked) → mode_of octets ≡ MODE_CONTROL → frame_fault_of octets ≡ None → ((other : FrameParts) → IsFrame octets other → f ≡ other) → has_answer_bit f ≡ false
+pub only_look : (octets : List ℕ) (from : Addr) (keys : List Key) (f : FrameParts) (asked : Asked) → mode_of octets ≡ MODE_CONTROL → frame_fault_of octets ≡ None → ((other : FrameParts) → IsFrame octets other → f ≡ other) → has_answer_bit f ≡ false
     → ((other : Asked) → IsAskedOf f from other → asked ≡ other)
-    → (class : Class) → IsClass octets from class → Look asked ≡ class
-only_look octets from f asked control good one request one_asked class is = by_class (control_class octets from control class is)
+    → (class : Class) → IsClass octets from keys class → Look asked ≡ class
+only_look octets from keys f asked control good one request one_asked class is = by_class (control_class octets from keys control class is)
   where
     by_class : IsControlClass octets from class → Look asked ≡ class
     by_class (inl (fault, refused, _)) = absurd (cc (good, refused))

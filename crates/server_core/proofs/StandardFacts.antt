@@ -1,6 +1,7 @@
 -- Worked datagrams: an unsynchronized server's reply (RFC 5905, sections 7.3 and 7.4), and control messages (RFC 9327, section 2).
 use Rattle.std.proofs.Common.{◌≡◌, ℕ, ◌^◌, pos, negsuc, [], ◌∷◌, false, refl, lit≤, inl, inr, arith}
 use Rattle.fixed_time.specs.declared.time.Ntp64.{Ntp64}
+use Rattle.mac_keys.specs.declared.checking.Auth.TheVariants.{Absent}
 use Rattle.net_addr.specs.declared.addr.Ip.TheVariants.{V4}
 use Rattle.discipline.specs.SoftClock.{clock_time}
 use Rattle.mode6_frame.specs.declared.message.FrameFault.TheVariants.{BadCount}
@@ -29,6 +30,7 @@ ask = record {
   version = 4;
   poll = pos 6;
   transmit = unix;
+  auth = Absent;
   version_least = lit≤ tt;
   version_most = lit≤ tt;
 }

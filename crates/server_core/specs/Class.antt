@@ -1,11 +1,17 @@
--- What a datagram asks for: packets by RFC 5905, section 7.3, control messages by RFC 9327, section 2; the order of the tests is our own rule.
-use Rattle.std.specs.Prelude.{◌≡◌, ◌≢◌, ◌⊎◌, ◌<◌, ℕ, true, List, [], length, Some}
+-- What a datagram asks for: packets by RFC 5905, sections 7.3 and 7.5, control messages by RFC 9327, section 2; the order of the tests is our own rule.
+use Rattle.std.specs.Prelude.{◌≡◌, ◌≢◌, ◌⊎◌, ℕ, true, List, [], Some}
+use Rattle.mac_keys.specs.declared.checking.Auth.{Auth}
+use Rattle.mac_keys.specs.declared.keys.Key.{Key}
 use Rattle.net_addr.specs.declared.addr.Addr.{Addr}
 use Rattle.ntp_packet.specs.declared.packet.Header.{Header}
 use Rattle.ntp_packet.specs.declared.packet.PacketFault.{PacketFault}
 use Rattle.ntp_packet.specs.declared.packet.PacketFault.TheVariants.{Short, BadVersion, BadMode}
-use Rattle.ntp_packet.specs.declared.packet.TheConstants.{HEADER_LEN}
 use Rattle.ntp_packet.specs.Packet.{IsPacket, fault_of, mode_of}
+use Rattle.ntp_trailer.specs.declared.parts.Trailer.{Trailer as FieldsAndMac}
+use Rattle.ntp_trailer.specs.declared.parts.TrailerFault.{TrailerFault}
+use Rattle.ntp_trailer.specs.declared.parts.TrailerFault.TheVariants.{Ragged, FieldShort, FieldLong, BadRemainder}
+use Rattle.ntp_trailer.specs.Trailers.{HasTrailer, IsRefused}
+use Rattle.ntp_trailer.specs.Authentic.{IsAuth}
 use Rattle.mode6_frame.specs.declared.message.FrameFault.{FrameFault}
 use Rattle.mode6_frame.specs.Frames.{FrameParts, IsFrame, frame_fault_of}
 use Rattle.server_core.specs.declared.class.TheConstants.{MODE_CLIENT, MODE_CONTROL}
@@ -22,22 +28,35 @@ packet_number Short = 1
 packet_number BadVersion = 2
 packet_number BadMode = 3
 
+-- the number of a fault of what follows the header, in the order of the tests
+abbrev pub trailer_number : TrailerFault → ℕ
+trailer_number Ragged = 1
+trailer_number FieldShort = 2
+trailer_number FieldLong = 3
+trailer_number BadRemainder = 4
+
 -- the octets begin with a client's header
 pub record IsClientPacket (octets : List ℕ) (h : Header) : Type 0 where
   pub packet : IsPacket octets h
   pub client : mode_of octets ≡ MODE_CLIENT
 
--- what a request says that its reply depends on
-pub record IsAskOf (h : Header) (from : Addr) (ask : Ask) : Type 0 where
+-- what a request says that its reply depends on, and what its MAC shows
+pub record IsAskOf (h : Header) (from : Addr) (auth : Auth) (ask : Ask) : Type 0 where
   pub from_is : ask.from ≡ from
   pub version_is : ask.version ≡ h.version
   pub poll_is : ask.poll ≡ h.poll
   pub transmit_is : ask.transmit ≡ h.transmit
+  pub auth_is : ask.auth ≡ auth
 
--- a client's request is one header and nothing after it
-abbrev pub IsTimeRequest : List ℕ → Addr → Ask → Type 0
-IsTimeRequest octets from ask =
-    (h : Header) × IsClientPacket octets h × (length octets ≡ HEADER_LEN) × IsAskOf h from ask
+-- a client's request is a header, extension fields and a MAC, end to end, or a header alone
+pub record IsTimeRequest (octets : List ℕ) (from : Addr) (keys : List Key) (ask : Ask) : Type 0 where
+  pub header : Header
+  pub trailer : FieldsAndMac
+  pub auth : Auth
+  pub packet : IsClientPacket octets header
+  pub follows : HasTrailer octets trailer
+  pub shown : IsAuth keys octets trailer auth
+  pub is : IsAskOf header from auth ask
 
 -- why a datagram is not heard
 abbrev pub IsUnheard : List ℕ → Unheard → Type 0
@@ -46,7 +65,8 @@ IsUnheard octets (Packet number) =
     ⊎ ((mode_of octets ≡ MODE_CLIENT)
     × ((fault : PacketFault) × (fault_of octets ≡ Some fault) × (number ≡ packet_number fault)))
 IsUnheard octets (Trailer number) =
-    ((h : Header) × IsClientPacket octets h) × (HEADER_LEN < length octets) × (number ≡ 4)
+    ((h : Header) × IsClientPacket octets h)
+    × ((fault : TrailerFault) × IsRefused octets fault × (number ≡ trailer_number fault))
 IsUnheard octets (Frame number) =
     (mode_of octets ≡ MODE_CONTROL)
     × ((fault : FrameFault) × (frame_fault_of octets ≡ Some fault) × (number ≡ frame_number fault))
@@ -54,8 +74,8 @@ IsUnheard octets (Unserved mode) =
     (octets ≢ []) × (mode ≡ mode_of octets) × (mode ≢ MODE_CLIENT) × (mode ≢ MODE_CONTROL)
 IsUnheard octets NotRequest = (f : FrameParts) × IsFrame octets f × (has_answer_bit f ≡ true)
 
--- what a datagram from this address asks for
-abbrev pub IsClass : List ℕ → Addr → Class → Type 0
-IsClass octets from (Silent why) = IsUnheard octets why
-IsClass octets from (Time ask) = IsTimeRequest octets from ask
-IsClass octets from (Look asked) = IsLook octets from asked
+-- what a datagram from this address asks for, where these keys are known
+abbrev pub IsClass : List ℕ → Addr → List Key → Class → Type 0
+IsClass octets from keys (Silent why) = IsUnheard octets why
+IsClass octets from keys (Time ask) = IsTimeRequest octets from keys ask
+IsClass octets from keys (Look asked) = IsLook octets from asked

@@ -1,10 +1,17 @@
 -- The reply to a client's request (RFC 5905, sections 7.3 and 9.2; the rounding is our own rule).
-use Rattle.std.specs.Prelude.{ℕ, ◌+◌, ◌-◌, ◌==◌, min, max, if◌then◌else◌, List}
+use Rattle.std.specs.Prelude.{◌≡◌, ◌⊎◌, ℕ, ◌+◌, ◌-◌, ◌==◌, min, max, if◌then◌else◌, List, [], ◌++◌, replicate, Option, None, Some, IsSome}
 use Rattle.fixed_time.specs.Time.{to_short_of, drift_of}
 use Rattle.fixed_time.specs.declared.time.TheConstants.{PHI, MAX_DISPERSION}
 use Rattle.discipline.specs.SoftClock.{clock_time}
 use Rattle.ntp_packet.specs.declared.packet.Header.{Header}
+use Rattle.ntp_packet.specs.declared.packet.TheConstants.{HEADER_LEN}
 use Rattle.ntp_packet.specs.Packet.{spelled_header}
+use Rattle.mac_keys.specs.declared.checking.Auth.{Auth}
+use Rattle.mac_keys.specs.declared.checking.Auth.TheVariants.{Absent, Good, Bad}
+use Rattle.mac_keys.specs.declared.keys.Key.{Key}
+use Rattle.mac_keys.specs.Tables.{key_of}
+use Rattle.ntp_trailer.specs.declared.parts.TheConstants.{KEY_ID_LEN}
+use Rattle.ntp_trailer.specs.Authentic.{spelled_mac}
 use Rattle.sys_vars.specs.declared.system.System.{System}
 use Rattle.server_core.specs.declared.class.Ask.{Ask}
 use Rattle.server_core.specs.declared.reply.Basis.{Basis}
@@ -38,6 +45,37 @@ reply_header basis ask came sent = record {
   transmit = record { 0 = clock_time basis.clock (max came sent) };
 }
 
+-- the MAC of some octets with this key, and nothing without a key
+abbrev pub mac_with : Option Key → List ℕ → List ℕ
+mac_with (Some key) octets = spelled_mac key octets
+mac_with None octets = []
+
+-- What follows the header of a reply, by what the MAC of the request shows: a MAC with the same key,
+-- a crypto-NAK, or nothing.
+abbrev pub reply_end : List Key → Auth → List ℕ → List ℕ
+reply_end keys Absent header = []
+reply_end keys (Good id) header = mac_with (key_of keys id) header
+reply_end keys Bad header = replicate KEY_ID_LEN 0
+
+-- some octets, and what follows them in a reply
+abbrev pub ended : List Key → Auth → List ℕ → List ℕ
+ended keys auth header = header ++ reply_end keys auth header
+
 -- the octets of that reply
-unfoldable pub time_reply_of : Basis → Ask → ℕ → ℕ → List ℕ
-time_reply_of basis ask came sent = spelled_header (reply_header basis ask came sent)
+unfoldable pub time_reply_of : Basis → Ask → List Key → ℕ → ℕ → List ℕ
+time_reply_of basis ask keys came sent =
+    ended keys ask.auth (spelled_header (reply_header basis ask came sent))
+
+-- the key of a good MAC is there
+abbrev pub HasKey : List Key → Auth → Type 0
+HasKey keys Absent = Unit {0}
+HasKey keys (Good id) = IsSome (key_of keys id)
+HasKey keys Bad = Unit {0}
+
+-- how many octets a reply has: those of the header; and those of a key id, with a digest of 16 or
+-- 20 octets where the request's MAC is good, and alone where it is bad
+abbrev pub IsReplyLength : Auth → ℕ → Type 0
+IsReplyLength Absent count = count ≡ HEADER_LEN
+IsReplyLength (Good id) count =
+    (count ≡ HEADER_LEN + KEY_ID_LEN + 16) ⊎ (count ≡ HEADER_LEN + KEY_ID_LEN + 20)
+IsReplyLength Bad count = count ≡ HEADER_LEN + KEY_ID_LEN

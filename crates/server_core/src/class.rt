@@ -1,6 +1,7 @@
 ghost use Rattle.std.specs.Prelude.{◌≤◌};
 
 use fixed_time::Ntp64;
+use mac_keys::Auth;
 use net_addr::Addr;
 use sys_vars::Asked;
 
@@ -21,6 +22,8 @@ pub struct Ask {
     pub poll: i8,
     /// When the request left its client, by the client's clock.
     pub transmit: Ntp64,
+    /// What the MAC of the request shows.
+    pub auth: Auth,
     pub ghost version_least: { 1 ≤ version },
     pub ghost version_most: { version ≤ 4 },
 }
@@ -30,7 +33,8 @@ pub struct Ask {
 pub enum Unheard {
     /// It is no packet: 1 it is too short, 2 its version is not served.
     Packet(u8),
-    /// What follows its header is refused: 4 it is no MAC.
+    /// What follows its header is refused: 1 it is no whole words, 2 a field is too short, 3 a field
+    /// is too long, 4 what remains is no MAC.
     Trailer(u8),
     /// It is no control message: 1 it is too short, 2 its version is not served, 3 its mode is
     /// another, 4 its count is too large.

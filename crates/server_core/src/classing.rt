@@ -1,20 +1,27 @@
 ghost use Rattle.std.specs.Prelude.{◌≡◌, ◌≢◌, ◌≤◌, ◌<◌, length, [], IfOk, IfErr};
 ghost use Rattle.ntp_packet.specs.Packet.{IsPacket, mode_of};
 ghost use Rattle.server_core.specs.declared.class.Class.{Class};
-ghost use Rattle.server_core.specs.Class.{IsClass, IsAskOf, packet_number};
+ghost use Rattle.server_core.specs.Class.{IsClass, IsAskOf, packet_number, trailer_number};
 ghost use Rattle.server_core.specs.Control.{IsReadRequest};
 
 use crate::class::{Ask, Class, MODE_CLIENT, MODE_CONTROL, Unheard};
 use crate::control::classify_control;
+use mac_keys::{Auth, KeyTable};
 use net_addr::Addr;
-use ntp_packet::{HEADER_LEN, Header, PacketFault};
+use ntp_packet::{Header, PacketFault};
+use ntp_trailer::{TrailerFault, auth, split};
 use std::alloc::{AllocError, Global};
 
-/// What a datagram from this address asks for. Memory is taken for a request to read variables
-/// alone.
-pub fn classify(alloc: Global, bytes: &[u8], from: &Addr) -> Result<Class, AllocError>
-    ensures found { IfOk result (λ class. IsClass bytes.now from.now class) }
-    ensures only { (class : Class) → IsClass bytes.now from.now class
+/// What a datagram from this address asks for, where these keys are known. Memory is taken for a
+/// request to read variables alone.
+pub fn classify(
+    alloc: Global,
+    bytes: &[u8],
+    from: &Addr,
+    keys: &KeyTable,
+) -> Result<Class, AllocError>
+    ensures found { IfOk result (λ class. IsClass bytes.now from.now keys.now class) }
+    ensures only { (class : Class) → IsClass bytes.now from.now keys.now class
         → IfOk result (λ it. it ≡ class) }
     ensures no_memory { IfErr result (λ _. IsReadRequest bytes.now) }
 {
@@ -22,7 +29,7 @@ pub fn classify(alloc: Global, bytes: &[u8], from: &Addr) -> Result<Class, Alloc
         return Ok(Class::Silent(Unheard::Packet(1)));
     }
     match mode_in(bytes) {
-        MODE_CLIENT => Ok(classify_client(bytes, from)),
+        MODE_CLIENT => Ok(classify_client(bytes, from, keys)),
         MODE_CONTROL => classify_control(alloc, bytes, from),
         mode => Ok(Class::Silent(Unheard::Unserved(mode))),
     }
@@ -37,25 +44,22 @@ fn mode_in(bytes: &[u8]) -> u8
 }
 
 /// What a datagram of a client's mode asks for.
-fn classify_client(bytes: &[u8], from: &Addr) -> Class
+fn classify_client(bytes: &[u8], from: &Addr, keys: &KeyTable) -> Class
     requires some { bytes.now ≢ [] }
     requires mode { mode_of bytes.now ≡ MODE_CLIENT }
-    ensures found { IsClass bytes.now from.now result }
-    ensures only { (class : Class) → IsClass bytes.now from.now class → result ≡ class }
+    ensures found { IsClass bytes.now from.now keys.now result }
+    ensures only { (class : Class) → IsClass bytes.now from.now keys.now class → result ≡ class }
 {
     match ntp_packet::read(bytes) {
-        Err(fault) => Class::Silent(Unheard::Packet(number_of(fault))),
-        Ok(header) => {
-            if bytes.len() > HEADER_LEN {
-                Class::Silent(Unheard::Trailer(4))
-            } else {
-                Class::Time(ask_of(&header, from))
-            }
-        }
+        Err(fault) => Class::Silent(Unheard::Packet(packet_number(fault))),
+        Ok(header) => match split(bytes) {
+            Err(fault) => Class::Silent(Unheard::Trailer(trailer_number(fault))),
+            Ok(trailer) => Class::Time(ask_of(&header, from, auth(keys, bytes, &trailer))),
+        },
     }
 }
 
-fn number_of(fault: PacketFault) -> u8
+fn packet_number(fault: PacketFault) -> u8
     ensures { result ≡ packet_number fault }
 {
     match fault {
@@ -65,16 +69,28 @@ fn number_of(fault: PacketFault) -> u8
     }
 }
 
-fn ask_of(header: &Header, from: &Addr) -> Ask
+fn trailer_number(fault: TrailerFault) -> u8
+    ensures { result ≡ trailer_number fault }
+{
+    match fault {
+        TrailerFault::Ragged => 1,
+        TrailerFault::FieldShort => 2,
+        TrailerFault::FieldLong => 3,
+        TrailerFault::BadRemainder => 4,
+    }
+}
+
+fn ask_of(header: &Header, from: &Addr, auth: Auth) -> Ask
     requires least { 1 ≤ header.now.version }
     requires most { header.now.version ≤ 4 }
-    ensures { IsAskOf header.now from.now result }
+    ensures { IsAskOf header.now from.now auth result }
 {
     Ask {
         from: *from,
         version: header.version,
         poll: header.poll,
         transmit: header.transmit,
+        auth,
     }
 }
 
@@ -112,11 +128,17 @@ mod tests {
 
     #[test]
     fn a_request_for_the_time_is_read(rt: HostRuntime) -> Result<(), Fail> {
-        match classify(rt.alloc(), &time_request(), &CLIENT)? {
+        match classify(
+            rt.alloc(),
+            &time_request(),
+            &CLIENT,
+            &KeyTable::new(rt.alloc()),
+        )? {
             Class::Time(ask) => {
                 assert_eq!(rt; ask.from, CLIENT);
                 assert_eq!(rt; (ask.version, ask.poll), (4, 6));
                 assert_eq!(rt; ask.transmit, Ntp64(0x83aa_7e80_0000_0000));
+                assert_eq!(rt; ask.auth, Auth::Absent);
             }
             _ => assert!(rt; false, "it is no request for the time"),
         }
@@ -129,8 +151,6 @@ mod tests {
         version_0[0] = 0x03;
         let mut version_5 = time_request();
         version_5[0] = 0x2b;
-        let mut longer = [0; 49];
-        longer[0] = 0x23;
         let mut reply = time_request();
         reply[0] = 0x24;
         let cases = [
@@ -139,13 +159,13 @@ mod tests {
             ("47 octets", [0x23; 47].as_slice(), Unheard::Packet(1)),
             ("version 0", version_0.as_slice(), Unheard::Packet(2)),
             ("version 5", version_5.as_slice(), Unheard::Packet(2)),
-            ("49 octets", longer.as_slice(), Unheard::Trailer(4)),
             ("mode 4", reply.as_slice(), Unheard::Unserved(4)),
             ("mode 7", b"\x27".as_slice(), Unheard::Unserved(7)),
             ("mode 0", b"\x20".as_slice(), Unheard::Unserved(0)),
         ];
+        let keys = KeyTable::new(rt.alloc());
         for (message, datagram, why) in cases {
-            let class = classify(rt.alloc(), datagram, &CLIENT)?;
+            let class = classify(rt.alloc(), datagram, &CLIENT, &keys)?;
             assert_eq!(rt; unheard(&class), Some(why), "{message}");
         }
         Ok(())
@@ -190,8 +210,9 @@ mod tests {
                 Unheard::NotRequest,
             ),
         ];
+        let keys = KeyTable::new(rt.alloc());
         for (message, datagram, why) in cases {
-            let class = classify(rt.alloc(), datagram, &CLIENT)?;
+            let class = classify(rt.alloc(), datagram, &CLIENT, &keys)?;
             assert_eq!(rt; unheard(&class), Some(why), "{message}");
         }
         Ok(())

@@ -1,4 +1,5 @@
-ghost use Rattle.std.specs.Prelude.{◌≡◌, ◌≤◌, length, IfOk, IfErr};
+ghost use Rattle.std.specs.Prelude.{◌≡◌, ◌≤◌, List, length, IfOk, IfErr};
+ghost use Rattle.mac_keys.specs.declared.keys.Key.{Key};
 ghost use Rattle.mode6_frame.specs.declared.items.Item.{Item};
 ghost use Rattle.mode6_frame.specs.Frames.{parts_of, FitsFrame, mode_of};
 ghost use Rattle.sys_vars.specs.declared.asked.Asked.{Asked};
@@ -25,8 +26,9 @@ pub(crate) fn classify_control(
     from: &Addr,
 ) -> Result<Class, AllocError>
     requires mode { mode_of bytes.now ≡ MODE_CONTROL }
-    ensures found { IfOk result (λ class. IsClass bytes.now from.now class) }
-    ensures only { (class : Class) → IsClass bytes.now from.now class
+    ensures found { (keys : List Key)
+        → IfOk result (λ class. IsClass bytes.now from.now keys class) }
+    ensures only { (keys : List Key) → (class : Class) → IsClass bytes.now from.now keys class
         → IfOk result (λ it. it ≡ class) }
     ensures no_memory { IfErr result (λ _. IsReadRequest bytes.now) }
 {

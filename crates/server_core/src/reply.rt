@@ -1,12 +1,15 @@
-ghost use Rattle.std.specs.Prelude.{◌≡◌, ◌≤◌, length};
+ghost use Rattle.std.specs.Prelude.{◌≡◌, ◌+◌, ◌≤◌, length};
 ghost use Rattle.fixed_time.specs.Time.{to_short_of};
-ghost use Rattle.server_core.specs.Reply.{shown_stratum, root_dispersion_at, reply_header, time_reply_of};
+ghost use Rattle.ntp_packet.specs.Packet.{spelled_header};
+ghost use Rattle.server_core.specs.Reply.{shown_stratum, root_dispersion_at, reply_header, ended, time_reply_of, HasKey, IsReplyLength};
 
 use crate::class::Ask;
 use discipline::SoftClock;
 use edge_traits::Octets;
 use fixed_time::{MAX_DISPERSION, PHI, Short, drift, to_short};
+use mac_keys::{Auth, KeyTable};
 use ntp_packet::{HEADER_LEN, Header};
+use ntp_trailer::{append_mac, append_nak};
 use sys_vars::System;
 
 /// The mode of a server's reply (RFC 5905, section 7.3, figure 10).
@@ -24,13 +27,32 @@ pub struct Basis {
 
 /// The reply to a request that came at the moment `came` and is answered at the moment `sent`.
 /// Its transmit time is that of the later moment.
-pub fn time_reply(basis: &Basis, ask: &Ask, came: u64, sent: u64) -> Octets
-    ensures value { result ≡ time_reply_of basis.now ask.now came sent }
-    ensures len { length result ≡ HEADER_LEN }
+///
+/// Where the request has a good MAC, a MAC with the same key ends the reply; where it has a bad one,
+/// a crypto-NAK does (RFC 5905, section 9.2).
+pub fn time_reply(basis: &Basis, ask: &Ask, keys: &KeyTable, came: u64, sent: u64) -> Octets
+    requires key { HasKey keys.now ask.now.auth }
+    ensures value { result ≡ time_reply_of basis.now ask.now keys.now came sent }
+    ensures len { IsReplyLength ask.now.auth (length result) }
 {
     let mut reply = Octets::new();
     reply.put(&ntp_packet::write(&header_of(basis, ask, came, sent)));
+    end(&mut reply, ask.auth, keys);
     reply
+}
+
+/// Appends what follows the header of a reply.
+fn end(reply: &mut Octets, auth: Auth, keys: &KeyTable)
+    requires header { length reply.old ≡ HEADER_LEN }
+    requires key { HasKey keys.now auth }
+    ensures value { reply.new ≡ ended keys.now auth reply.old }
+    ensures len { IsReplyLength auth (length reply.new) }
+{
+    match auth {
+        Auth::Absent => {}
+        Auth::Bad => append_nak(reply),
+        Auth::Good(id) => append_mac(keys.find(id).unwrap(), reply),
+    }
 }
 
 fn header_of(basis: &Basis, ask: &Ask, came: u64, sent: u64) -> Header
@@ -93,6 +115,7 @@ mod tests {
         version: 4,
         poll: 6,
         transmit: UNIX,
+        auth: Auth::Absent,
     };
 
     /// What a server's first reply is made of, whose clock begins at the origin of Unix time.
@@ -106,7 +129,8 @@ mod tests {
 
     #[test]
     fn a_server_that_knows_no_time_says_so(rt: HostRuntime) {
-        let reply = time_reply(&opening(), &ASK, 1 << 32, 1 << 32);
+        let keys = KeyTable::new(rt.alloc());
+        let reply = time_reply(&opening(), &ASK, &keys, 1 << 32, 1 << 32);
         let octets = *b"\xe4\x00\x06\xec\x00\x00\x00\x00\x00\x10\x00\x00INIT\
             \x00\x00\x00\x00\x00\x00\x00\x00\x83\xaa\x7e\x80\x00\x00\x00\x00\
             \x83\xaa\x7e\x81\x00\x00\x00\x00\x83\xaa\x7e\x81\x00\x00\x00\x00";

@@ -3,8 +3,11 @@ use Rattle.server_core.proofs.ClassLemmas.{empty, only_empty, only_unserved, not
 use Rattle.server_core.proofs.classing.classify.Goals as goal
 
 pub returns-then-is_empty-clause-only : goal.returns-then-is_empty-clause-only
-returns-then-is_empty-clause-only c = only_empty _ _ (empty _ _ c.is_empty.ensures c.if-is_empty.true)
+returns-then-is_empty-clause-only c = only_empty _ _ _ (empty _ _ c.is_empty.ensures c.if-is_empty.true)
 
 pub returns-in_default-clause-only : goal.returns-in_default-clause-only
 returns-in_default-clause-only c =
-    only_unserved _ _ _ (not_empty _ _ c.is_empty.ensures c.if-is_empty.false) c.mode_in.ensures (λ e. omega (arith, e)) (λ e. omega (arith, e))
+    only_unserved _ _ _ _ (not_empty _ _ c.is_empty.ensures c.if-is_empty.false) c.mode_in.ensures (λ e. omega (arith, e)) (λ e. omega (arith, e))
+
+pub returns-in-6-clause-found : goal.returns-in-6-clause-found
+returns-in-6-clause-found c = c.classify_control.ensures.found c.args.keys.now
