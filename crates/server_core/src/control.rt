@@ -145,6 +145,7 @@ fn number_asked(assoc: u16, name: &[u8]) -> u8
 #[cfg(test)]
 mod tests {
     use super::*;
+    use mac_keys::KeyTable;
     use net_addr::Ip;
     use std::test::Fail;
 
@@ -154,7 +155,7 @@ mod tests {
     };
 
     fn what_of(alloc: Global, datagram: &[u8]) -> Result<Option<What>, AllocError> {
-        match crate::classify(alloc, datagram, &CLIENT)? {
+        match crate::classify(alloc, datagram, &CLIENT, &KeyTable::new(alloc))? {
             Class::Look(asked) => Ok(Some(asked.what)),
             _ => Ok(None),
         }
@@ -163,7 +164,7 @@ mod tests {
     #[test]
     fn a_request_for_stratum_is_read(rt: HostRuntime) -> Result<(), Fail> {
         let request = *b"\x16\x02\x00\x01\x00\x00\x00\x00\x00\x00\x00\x07stratum\x00";
-        match crate::classify(rt.alloc(), &request, &CLIENT)? {
+        match crate::classify(rt.alloc(), &request, &CLIENT, &KeyTable::new(rt.alloc()))? {
             Class::Look(asked) => {
                 assert_eq!(rt; asked.from, CLIENT);
                 assert_eq!(rt; (asked.head.version, asked.head.opcode), (2, 2));
