@@ -11,7 +11,9 @@ use Rattle.mac_keys.specs.declared.checking.Auth.TheVariants.{Absent, Good, Bad}
 use Rattle.mac_keys.specs.declared.keys.Key.{Key}
 use Rattle.mac_keys.specs.Tables.{key_of}
 use Rattle.ntp_trailer.specs.declared.parts.TheConstants.{KEY_ID_LEN}
-use Rattle.ntp_trailer.specs.Authentic.{spelled_mac}
+use Rattle.ntp_trailer.specs.declared.parts.Trailer.{Trailer as FieldsAndMac}
+use Rattle.ntp_trailer.specs.Trailers.{HasTrailer}
+use Rattle.ntp_trailer.specs.Authentic.{IsAuth, spelled_mac}
 use Rattle.sys_vars.specs.declared.system.System.{System}
 use Rattle.server_core.specs.declared.class.Ask.{Ask}
 use Rattle.server_core.specs.declared.reply.Basis.{Basis}
@@ -79,3 +81,9 @@ IsReplyLength Absent count = count ≡ HEADER_LEN
 IsReplyLength (Good id) count =
     (count ≡ HEADER_LEN + KEY_ID_LEN + 16) ⊎ (count ≡ HEADER_LEN + KEY_ID_LEN + 20)
 IsReplyLength Bad count = count ≡ HEADER_LEN + KEY_ID_LEN
+
+-- the octets are a header and a MAC, and the MAC shows this; or a header alone, where there is no MAC
+pub record Shows (keys : List Key) (auth : Auth) (octets : List ℕ) : Type 0 where
+  pub trailer : FieldsAndMac
+  pub has : HasTrailer octets trailer
+  pub shown : IsAuth keys octets trailer auth

@@ -1,7 +1,7 @@
 ghost use Rattle.std.specs.Prelude.{◌≡◌, ◌+◌, ◌≤◌, length};
 ghost use Rattle.fixed_time.specs.Time.{to_short_of};
 ghost use Rattle.ntp_packet.specs.Packet.{spelled_header};
-ghost use Rattle.server_core.specs.Reply.{shown_stratum, root_dispersion_at, reply_header, ended, time_reply_of, HasKey, IsReplyLength};
+ghost use Rattle.server_core.specs.Reply.{shown_stratum, root_dispersion_at, reply_header, ended, time_reply_of, HasKey, IsReplyLength, Shows};
 
 use crate::class::Ask;
 use discipline::SoftClock;
@@ -34,6 +34,7 @@ pub fn time_reply(basis: &Basis, ask: &Ask, keys: &KeyTable, came: u64, sent: u6
     requires key { HasKey keys.now ask.now.auth }
     ensures value { result ≡ time_reply_of basis.now ask.now keys.now came sent }
     ensures len { IsReplyLength ask.now.auth (length result) }
+    ensures shown { Shows keys.now ask.now.auth result }
 {
     let mut reply = Octets::new();
     reply.put(&ntp_packet::write(&header_of(basis, ask, came, sent)));
@@ -47,12 +48,24 @@ fn end(reply: &mut Octets, auth: Auth, keys: &KeyTable)
     requires key { HasKey keys.now auth }
     ensures value { reply.new ≡ ended keys.now auth reply.old }
     ensures len { IsReplyLength auth (length reply.new) }
+    ensures shown { Shows keys.now auth reply.new }
 {
     match auth {
         Auth::Absent => {}
         Auth::Bad => append_nak(reply),
-        Auth::Good(id) => append_mac(keys.find(id).unwrap(), reply),
+        Auth::Good(id) => end_by_key(reply, id, keys),
     }
+}
+
+/// Appends the MAC of the key with this id to the header of a reply.
+fn end_by_key(reply: &mut Octets, id: u32, keys: &KeyTable)
+    requires header { length reply.old ≡ HEADER_LEN }
+    requires key { HasKey keys.now (Auth.Good id) }
+    ensures value { reply.new ≡ ended keys.now (Auth.Good id) reply.old }
+    ensures len { IsReplyLength (Auth.Good id) (length reply.new) }
+    ensures shown { Shows keys.now (Auth.Good id) reply.new }
+{
+    append_mac(keys.find(id).unwrap(), reply);
 }
 
 fn header_of(basis: &Basis, ask: &Ask, came: u64, sent: u64) -> Header
