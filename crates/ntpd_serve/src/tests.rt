@@ -74,9 +74,9 @@ fn octets_of(bytes: &[u8]) -> Octets {
     octets
 }
 
-/// The request with these pieces behind it, end to end.
-fn behind_request(pieces: &[&[u8]]) -> Octets {
-    let mut octets = octets_of(&REQUEST);
+/// A header with these pieces behind it, end to end.
+fn behind(header: &[u8], pieces: &[&[u8]]) -> Octets {
+    let mut octets = octets_of(header);
     for piece in pieces {
         for byte in *piece {
             if octets.len() < 2048 {
@@ -178,8 +178,8 @@ fn a_request_gets_the_reply_of_a_server_that_knows_no_time(rt: HostRuntime) -> R
 fn what_is_no_request_gets_no_answer(rt: HostRuntime) -> Result<(), Fail> {
     let mut longer = [0u8; 56];
     longer[..48].copy_from_slice(&REQUEST);
-    let short_field = behind_request(&[b"\x00\x01\x00\x0c", &[0; 24]]);
-    let long_field = behind_request(&[b"\x00\x01\x00\x20", &[0; 24]]);
+    let short_field = behind(&REQUEST, &[b"\x00\x01\x00\x0c", &[0; 24]]);
+    let long_field = behind(&REQUEST, &[b"\x00\x01\x00\x20", &[0; 24]]);
     let mut zero = REQUEST;
     zero[0] = 0x03;
     let mut five = REQUEST;
@@ -265,11 +265,10 @@ fn the_mac_of_a_request_decides_what_ends_the_reply(rt: HostRuntime) -> Result<(
     ];
     for (what, field, mac, end) in cases {
         let keys = read_keys(rt.alloc(), KEY_FILE).ok().ok_or("the key")?;
-        let (reply, out) = serve_with(rt.alloc(), keys, &behind_request(&[field, mac]))?;
+        let (reply, out) = serve_with(rt.alloc(), keys, &behind(&REQUEST, &[field, mac]))?;
         assert_eq!(rt; out.contents(), b"answered 1\n".as_slice(), "{what}");
-        assert_eq!(rt; reply.len(), 48 + end.len(), "{what}");
-        assert_eq!(rt; &reply.as_slice()[..48], REPLY.as_slice(), "{what}");
-        assert_eq!(rt; &reply.as_slice()[48..], end, "{what}");
+        let due = behind(&REPLY, &[end]);
+        assert_eq!(rt; reply.as_slice(), due.as_slice(), "{what}");
     }
     Ok(())
 }
@@ -280,14 +279,13 @@ fn once_knows_no_keys(rt: HostRuntime) -> Result<(), Fail> {
         &rt,
         rt.alloc(),
         &["once", "127.0.0.1:123"],
-        one(rt.alloc(), behind_request(&[&MAC]).as_slice())?,
+        one(rt.alloc(), behind(&REQUEST, &[&MAC]).as_slice())?,
         Vec::new(rt.alloc()),
         Vec::new(rt.alloc()),
     )?;
     check_run(&rt, &run, 0, "answered 1\n", 1, "a request with a MAC");
     let (_, reply) = given(&run);
-    assert_eq!(rt; reply.len(), 52);
-    assert_eq!(rt; &reply.as_slice()[48..], NAK.as_slice());
+    assert_eq!(rt; reply.as_slice(), behind(&REPLY, &[&NAK]).as_slice());
     Ok(())
 }
 
