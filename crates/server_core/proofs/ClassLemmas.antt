@@ -1,5 +1,5 @@
 -- A datagram has one class.
-use Rattle.std.proofs.Common.{◌≡◌, ◌≢◌, ◌≤◌, ℕ, List, [], ◌∷◌, length, None, Some, ◌↔◌, refl, sym, ap, subst, ℤ, ◌∙◌, inl, inr, arith, Bool, true, false, ◌==◌, ◌<◌, ◌⊎◌}
+use Rattle.std.proofs.Common.{◌≡◌, ◌≢◌, ◌≤◌, ℕ, List, [], ◌∷◌, length, None, Some, ◌↔◌, refl, sym, ap, subst, ℤ, ◌∙◌, inl, inr, arith, Bool, true, false, ◌==◌, ◌⊎◌}
 use Rattle.std.proofs.Math.Bridge.{le_prop}
 use Rattle.std.proofs.lemmas.Bool.Decides.{nat_tests}
 use Rattle.fixed_time.specs.declared.time.Ntp64.{Ntp64}

@@ -1,9 +1,9 @@
 -- The MAC that ends a reply shows what the request's MAC showed.
-use Rattle.std.proofs.Common.{◌≡◌, ℕ, ◌+◌, ◌<◌, ◌^◌, ◌==◌, ◌++◌, Bool, true, false, cond, ◌⊎◌, List, [], ◌∷◌, length, take, drop, replicate, Option, None, Some, IsSomeAnd, refl, sym, ap, subst, ◌∙◌, inl, inr, arith, append_assoc, length-append}
+use Rattle.std.proofs.Common.{◌≡◌, ℕ, ◌+◌, ◌<◌, ◌^◌, ◌==◌, ◌++◌, Bool, true, false, cond, ◌⊎◌, List, [], ◌∷◌, length, take, drop, replicate, Option, Some, IsSomeAnd, refl, sym, ap, subst, ◌∙◌, inl, inr, arith, append_assoc, length-append}
 use Rattle.std.proofs.lemmas.Bool.Decides.{nat_tests}
 use Rattle.std.proofs.lemmas.List.{append-nil}
 use Rattle.std.proofs.Math.Seq.{take-append_seam, drop-append_seam}
-use Rattle.byteorder.specs.Endian.{big_bytes, big_number}
+use Rattle.byteorder.specs.Endian.{big_bytes}
 use Rattle.byteorder.specs.Numbers.{big_number-reads_back}
 use Rattle.mac_keys.specs.declared.checking.Auth.TheVariants.{Absent, Good, Bad}
 use Rattle.mac_keys.specs.declared.keys.Key.{Key}

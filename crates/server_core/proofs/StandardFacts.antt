@@ -1,19 +1,21 @@
 -- Worked datagrams: an unsynchronized server's reply (RFC 5905, sections 7.3 and 7.4), and control messages (RFC 9327, section 2).
-use Rattle.std.proofs.Common.{◌≡◌, ℕ, ◌^◌, pos, negsuc, [], ◌∷◌, false, refl, lit≤, inl, inr, arith}
+use Rattle.std.proofs.Common.{◌≡◌, ℕ, ◌^◌, pos, negsuc, List, [], ◌∷◌, ◌++◌, false, refl, lit≤, inl, inr, arith}
 use Rattle.fixed_time.specs.declared.time.Ntp64.{Ntp64}
-use Rattle.mac_keys.specs.declared.checking.Auth.TheVariants.{Absent}
+use Rattle.mac_keys.specs.declared.checking.Auth.TheVariants.{Absent, Good, Bad}
+use Rattle.mac_keys.specs.declared.keys.Algorithm.TheVariants.{Md5}
+use Rattle.mac_keys.specs.declared.keys.Key.{Key}
 use Rattle.net_addr.specs.declared.addr.Ip.TheVariants.{V4}
 use Rattle.discipline.specs.SoftClock.{clock_time}
 use Rattle.mode6_frame.specs.declared.message.FrameFault.TheVariants.{BadCount}
 use Rattle.mode6_frame.specs.Frames.{FrameParts}
-use Rattle.sys_vars.specs.declared.asked.What.TheVariants.{Bad}
+use Rattle.sys_vars.specs.declared.asked.What.TheVariants.{Bad as Refused}
 use Rattle.sys_vars.specs.Opening.{opening_record}
 use Rattle.server_core.specs.declared.class.Ask.{Ask}
 use Rattle.server_core.specs.declared.class.Unheard.TheVariants.{Packet, Frame, Unserved}
 use Rattle.server_core.specs.declared.reply.Basis.{Basis}
 use Rattle.server_core.specs.Class.{IsUnheard}
 use Rattle.server_core.specs.Control.{IsWhat, has_answer_bit}
-use Rattle.server_core.specs.Reply.{reply_header}
+use Rattle.server_core.specs.Reply.{HasKey, ended, reply_header}
 
 -- the origin of Unix time
 abbrev unix : Ntp64
@@ -75,5 +77,20 @@ is_request : has_answer_bit (request 2) ≡ false
 is_request = refl
 
 -- no such operation is served
-reserved : IsWhat (request 10) (Bad 3)
+reserved : IsWhat (request 10) (Refused 3)
 reserved = inr (λ e. omega (arith, e), refl)
+
+-- a reply to a bad MAC ends with a crypto-NAK
+bad_ends : (keys : List Key) (octets : List ℕ) → ended keys Bad octets ≡ octets ++ (0 ∷ 0 ∷ 0 ∷ 0 ∷ [])
+bad_ends keys octets = refl
+
+-- the table of the key file `7 MD5 secret`
+abbrev key_file : List Key
+key_file = record { id = 7; algorithm = Md5; secret = 115 ∷ 101 ∷ 99 ∷ 114 ∷ 101 ∷ 116 ∷ [] } ∷ []
+
+-- it has the key of a good MAC with id 7, and not with id 8
+has_key : HasKey key_file (Good 7)
+has_key = refl
+
+has_no_key : ¬ (HasKey key_file (Good 8))
+has_no_key none = cc

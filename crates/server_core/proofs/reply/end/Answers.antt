@@ -1,6 +1,3 @@
-use Rattle.std.proofs.Common.{◌++◌, replicate, List, ℕ, sym, subst}
-use Rattle.mac_keys.specs.declared.checking.Auth.TheVariants.{Absent, Bad}
-use Rattle.server_core.specs.Reply.{Shows}
 use Rattle.server_core.proofs.ShownLemmas.{Shows-absent, Shows-bad}
 use Rattle.server_core.proofs.reply.end.Goals as goal
 
