@@ -33,8 +33,8 @@ pub struct Ask {
 pub enum Unheard {
     /// It is no packet: 1 it is too short, 2 its version is not served.
     Packet(u8),
-    /// What follows its header is refused: 1 it is no whole words, 2 a field is too short, 3 a field
-    /// is too long, 4 what remains is no MAC.
+    /// What follows its header is refused: 1 it is no whole words, 2 a field is too short, 3 a
+    /// field is too long, 4 what remains is no MAC.
     Trailer(u8),
     /// It is no control message: 1 it is too short, 2 its version is not served, 3 its mode is
     /// another, 4 its count is too large.

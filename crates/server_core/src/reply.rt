@@ -28,8 +28,8 @@ pub struct Basis {
 /// The reply to a request that came at the moment `came` and is answered at the moment `sent`.
 /// Its transmit time is that of the later moment.
 ///
-/// Where the request has a good MAC, a MAC with the same key ends the reply; where it has a bad one,
-/// a crypto-NAK does (RFC 5905, section 9.2).
+/// Where the request has a good MAC, a MAC with the same key ends the reply; where it has a bad
+/// one, a crypto-NAK does (RFC 5905, section 9.2).
 pub fn time_reply(basis: &Basis, ask: &Ask, keys: &KeyTable, came: u64, sent: u64) -> Octets
     requires key { HasKey keys.now ask.now.auth }
     ensures value { result ≡ time_reply_of basis.now ask.now keys.now came sent }
