@@ -1,22 +1,26 @@
 ghost use Rattle.std.specs.Prelude.{◌≡◌, ◌+◌, ◌*◌, ◌/◌, ◌%◌, ◌^◌};
 ghost use Rattle.std.specs.Duration.{as_nanos};
 
+use crate::file_source::FileSource;
 use crate::host::{Host, HostFault};
 use crate::salt::Salt;
 use crate::udp_port::UdpPort;
 use crate::uptime::{Uptime, units_of};
 use fixed_time::Ntp64;
 use net_addr::Addr;
+use std::fs;
 use std::net::Net;
 use std::random::RandomSource;
+use std::rt::Files;
 use std::time;
 use std::time::{Duration, Instant};
 
 /// The seconds from the epoch of NTP, 1900, to that of the system, 1970 (RFC 5905, section 6).
 const SECONDS_TO_1970: u128 = 2_208_988_800;
 
-/// The machine that the program runs on. All of its clocks begin at the moment at which it was
-/// made, so its origin and a reading add up to the wall clock's time, until that clock is set.
+/// The machine that the program runs on. All of its clocks begin at the moment at which it was made,
+/// and its origin is the wall clock's reading right after it. No clause ties the two together. It
+/// tells neither its binds nor what its files hold, and a name stands for what the system opens.
 #[derive(Drop)]
 pub struct RealHost<S> {
     system: S,
@@ -26,7 +30,7 @@ pub struct RealHost<S> {
     faults: u64,
 }
 
-impl<S: Net + time::Clock + RandomSource + Copy> RealHost<S> {
+impl<S: Files + Net + time::Clock + RandomSource + Copy> RealHost<S> {
     /// The origin is 0 where the wall clock can't be read, and the salt has zero octets where the
     /// system gives no random ones.
     pub fn new(system: S) -> RealHost<S>
@@ -45,14 +49,18 @@ impl<S: Net + time::Clock + RandomSource + Copy> RealHost<S> {
     }
 }
 
-impl<S: Net + time::Clock + RandomSource + Copy> Host for RealHost<S> {
+impl<S: Files + Net + time::Clock + RandomSource + Copy> Host for RealHost<S> {
     ghost use Rattle.std.specs.Prelude.{None};
 
     type P = UdpPort;
 
     type C = Uptime<S>;
 
+    type S = FileSource<S::File>;
+
     ghost binds = { λ _. None };
+
+    ghost files = { λ _ _. None };
 
     ghost faults = { λ h. h.faults };
 
@@ -63,6 +71,16 @@ impl<S: Net + time::Clock + RandomSource + Copy> Host for RealHost<S> {
     fn bind(&mut self, at: &Addr) -> Result<UdpPort, HostFault> {
         match UdpPort::bind(&self.system, at) {
             Ok(port) => Ok(port),
+            Err(_) => {
+                self.faults = self.faults.saturating_add(1);
+                Err(HostFault::Failed)
+            }
+        }
+    }
+
+    fn source(&mut self, name: &str) -> Result<FileSource<S::File>, HostFault> {
+        match fs::open(&self.system, name) {
+            Ok(file) => Ok(FileSource::of(file)),
             Err(_) => {
                 self.faults = self.faults.saturating_add(1);
                 Err(HostFault::Failed)
