@@ -1,5 +1,5 @@
-//! The outside of the programs, as traits: datagram ports, clocks, sources and sinks of octets, gates
-//! and hosts; each in memory, which tells all that it did, and real, over the operating system.
+//! The outside of the programs, as traits: datagram ports, clocks, sources and sinks of octets,
+//! gates and hosts; each in memory, which tells all that it did, and real, over the system.
 //!
 //! Layer 2. Stands on: `net_addr`, `fixed_time`.
 //! Promises: what was taken, given, read and written is told where the object tells it, and a fault

@@ -248,8 +248,10 @@ mod tests {
     use super::*;
     use crate::clock::Clock;
     use crate::memory_port::Incoming;
+    use crate::name::Name;
     use crate::octets::Octets;
     use crate::port::{Port, Taken};
+    use crate::source::{Failed, read_whole};
     use net_addr::Ip;
     use std::test::Fail;
 
@@ -265,6 +267,7 @@ mod tests {
         let clock = MemoryClock::of(vec![in alloc; 7]?);
         let mut host = MemoryHost::of(
             alloc,
+            Vec::new(alloc),
             vec![in alloc; quiet]?,
             vec![in alloc; clock]?,
             Ntp64(0x83aa_7e80 << 32),
@@ -279,6 +282,44 @@ mod tests {
         assert_eq!(rt; host.clock().now(), 0);
         assert_eq!(rt; host.origin(), Ntp64(0x83aa_7e80 << 32));
         assert_eq!(rt; host.salt().0, [3; 16]);
+        Ok(())
+    }
+
+    fn file(alloc: Global, name: &[u8], octets: &[u8], failing: u64) -> Result<MemoryFile, Fail> {
+        Ok(MemoryFile {
+            name: Name::of(Vec::from_slice(alloc, name)?),
+            octets: Vec::from_slice(alloc, octets)?,
+            failing: vec![in alloc; failing]?,
+        })
+    }
+
+    #[test]
+    fn each_source_of_a_name_has_the_octets_of_its_first_file(rt: HostRuntime) -> Result<(), Fail> {
+        let alloc = rt.alloc();
+        let other = file(alloc, b"ntp.keys", b"other", 9)?;
+        let first = file(alloc, b"ntp.conf", b"first", 2)?;
+        let second = file(alloc, b"ntp.conf", b"second", 9)?;
+        let mut host = MemoryHost::of(
+            alloc,
+            vec![in alloc; other, first, second]?,
+            Vec::new(alloc),
+            Vec::new(alloc),
+            Ntp64(0),
+            Salt([3; 16]),
+            vec![in alloc; 2, 4]?,
+        );
+        for turn in ["once", "twice"] {
+            let mut source = host.source("ntp.conf")?;
+            let whole = read_whole(alloc, &mut source, 6)?;
+            assert_eq!(rt; whole.as_slice(), b"first".as_slice(), "{turn}");
+            assert_eq!(rt; source.read(&mut [0; 1]), Err(Failed), "{turn}");
+        }
+        // The calls with the numbers 2 and 4 fail, and so does a name that is not there.
+        assert!(rt; matches!(host.bind(&SERVER), Err(HostFault::Failed)));
+        assert!(rt; host.bind(&SERVER).is_ok());
+        assert!(rt; matches!(host.source("ntp.conf"), Err(HostFault::Failed)));
+        assert!(rt; matches!(host.source("ntp.con"), Err(HostFault::Failed)));
+        assert!(rt; host.source("ntp.keys").is_ok());
         Ok(())
     }
 }
