@@ -1,7 +1,10 @@
 pub mod Told
 pub mod Trace
 pub mod Written
+pub mod Reads
 pub mod Binds
 pub mod Counts
 pub mod Memory
+pub mod MemorySources
+pub mod MemoryFiles
 pub mod MemoryHosts

@@ -4,16 +4,22 @@ ghost use Rattle.edge_traits.specs.Memory.{IsNewPort, IsNewClock, IsNextPort, Is
 use crate::calls::Calls;
 use crate::host::{Host, HostFault};
 use crate::memory_clock::MemoryClock;
+use crate::memory_file::{MemoryFile, open_first};
 use crate::memory_port::MemoryPort;
+use crate::memory_source::MemorySource;
 use crate::salt::Salt;
+use crate::source::Source;
 use fixed_time::Ntp64;
 use net_addr::Addr;
 use std::alloc::Global;
 
 /// A host in memory. Its binds give its ports in turn, and past their end ports of no datagrams;
-/// its clocks likewise, and past their end clocks of no readings.
+/// its clocks likewise, and past their end clocks of no readings. A source has a copy of the octets
+/// of the first file of its name; the file stays, so that it can be read again.
 #[derive(Drop)]
 pub struct MemoryHost {
+    /// The files of which sources are made.
+    pub files: Vec<MemoryFile>,
     /// The ports that binds are still to give, the next one first.
     pub ports: Vec<MemoryPort>,
     /// The clocks that it is still to give, the next one first.
@@ -29,12 +35,13 @@ pub struct MemoryHost {
 }
 
 impl MemoryHost {
-    ghost use Rattle.edge_traits.specs.MemoryHosts.{failing_binds, binds_made};
+    ghost use Rattle.edge_traits.specs.MemoryHosts.{failing_calls, calls_made};
 
-    /// A host of these ports and clocks, which were not called yet. The binds that `failing`
-    /// numbers, from 0, fail.
+    /// A host of these files, and of these ports and clocks, which were not called yet. The calls
+    /// of `source` and `bind` that `failing` numbers, from 0 and counted together, fail.
     pub fn of(
         alloc: Global,
+        files: Vec<MemoryFile>,
         ports: Vec<MemoryPort>,
         clocks: Vec<MemoryClock>,
         origin: Ntp64,
@@ -43,16 +50,18 @@ impl MemoryHost {
     ) -> MemoryHost
         requires new_ports { All IsNewPort ports.items }
         requires new_clocks { All IsNewClock clocks.items }
+        ensures files { result.files.items ≡ files.items }
         ensures ports { result.ports.items ≡ ports.items }
         ensures clocks { result.clocks.items ≡ clocks.items }
         ensures binds { ⟦<MemoryHost as Host>⟧.binds result ≡ Some [] }
         ensures origin { ⟦<MemoryHost as Host>⟧.origin result ≡ origin }
         ensures salt { ⟦<MemoryHost as Host>⟧.salt result ≡ salt }
         ensures faults { ⟦<MemoryHost as Host>⟧.faults result ≡ 0 }
-        ensures failing { failing_binds result ≡ failing.items }
-        ensures made { binds_made result ≡ 0 }
+        ensures failing { failing_calls result ≡ failing.items }
+        ensures made { calls_made result ≡ 0 }
     {
         MemoryHost {
+            files,
             ports,
             clocks,
             alloc,
@@ -96,17 +105,22 @@ fn first_clock(alloc: Global, clocks: &mut Vec<MemoryClock>) -> MemoryClock
 }
 
 impl Host for MemoryHost {
-    ghost use Rattle.std.specs.Prelude.{◌≤◌, ◌↔◌, Contains, IsErrOf, IfOk, OnOk, OnErr};
+    ghost use Rattle.std.specs.Prelude.{◌≤◌, ◌↔◌, ◌⊎◌, None, Contains, IsErrOf, IfSome, IfOk, OnOk, OnErr};
     ghost use Rattle.edge_traits.specs.Told.{gained};
     ghost use Rattle.edge_traits.specs.Binds.{bound};
     ghost use Rattle.edge_traits.specs.Counts.{Counts, next_count};
-    ghost use Rattle.edge_traits.specs.MemoryHosts.{failing_binds, binds_made};
+    ghost use Rattle.edge_traits.specs.MemoryHosts.{failing_calls, calls_made};
+    ghost use Rattle.edge_traits.specs.MemoryFiles.{IsSourceOf, file_named, octets_named};
 
     type P = MemoryPort;
 
     type C = MemoryClock;
 
+    type S = MemorySource;
+
     ghost binds = { λ h. Some h.bound.items };
+
+    ghost files = { λ h. octets_named h.files.items };
 
     ghost faults = { λ h. h.faults };
 
@@ -120,17 +134,20 @@ impl Host for MemoryHost {
         ensures ports { OnOk result (self.new.ports.items ≡ drop 1 self.old.ports.items) }
         ensures ports_kept { OnErr result (self.new.ports.items ≡ self.old.ports.items) }
         ensures fails { IsErrOf result HostFault.Failed
-            ↔ Contains (failing_binds self.old) (binds_made self.old) }
+            ↔ Contains (failing_calls self.old) (calls_made self.old) }
 
         // What is told and counted.
         ensures told { ⟦<MemoryHost as Host>⟧.binds self.new
             ≡ gained (⟦<MemoryHost as Host>⟧.binds self.old) (bound result at.now) }
         ensures faults { Counts (IsErrOf result HostFault.Failed)
             (⟦<MemoryHost as Host>⟧.faults self.old) (⟦<MemoryHost as Host>⟧.faults self.new) }
-        ensures made { binds_made self.new ≡ next_count (binds_made self.old) }
+        ensures made { calls_made self.new ≡ next_count (calls_made self.old) }
 
         // The host stays the one that it is.
-        ensures failing_kept { failing_binds self.new ≡ failing_binds self.old }
+        ensures failing_kept { failing_calls self.new ≡ failing_calls self.old }
+        ensures file_list_kept { self.new.files.items ≡ self.old.files.items }
+        ensures files_kept { ⟦<MemoryHost as Host>⟧.files self.new
+            ≡ ⟦<MemoryHost as Host>⟧.files self.old }
         ensures clocks_kept { self.new.clocks.items ≡ self.old.clocks.items }
         ensures origin_kept { ⟦<MemoryHost as Host>⟧.origin self.new
             ≡ ⟦<MemoryHost as Host>⟧.origin self.old }
@@ -147,15 +164,58 @@ impl Host for MemoryHost {
         Ok(first_port(self.alloc, &mut self.ports, *at))
     }
 
+    fn source(&mut self, name: &str) -> Result<MemorySource, HostFault>
+        ensures source { IfOk result (λ s.
+            IfSome (file_named self.old.files.items name.now) (λ file. IsSourceOf file s)) }
+        ensures source_rest { IfOk result (λ s. ⟦<MemorySource as Source>⟧.rest s
+            ≡ ⟦<MemoryHost as Host>⟧.files self.old name.now) }
+        ensures source_faults { IfOk result (λ s. ⟦<MemorySource as Source>⟧.faults s ≡ 0) }
+        ensures fails { IsErrOf result HostFault.Failed
+            ↔ (Contains (failing_calls self.old) (calls_made self.old)
+            ⊎ (file_named self.old.files.items name.now ≡ None)) }
+
+        // What is counted.
+        ensures faults { Counts (IsErrOf result HostFault.Failed)
+            (⟦<MemoryHost as Host>⟧.faults self.old) (⟦<MemoryHost as Host>⟧.faults self.new) }
+        ensures made { calls_made self.new ≡ next_count (calls_made self.old) }
+
+        // The host stays the one that it is.
+        ensures failing_kept { failing_calls self.new ≡ failing_calls self.old }
+        ensures file_list_kept { self.new.files.items ≡ self.old.files.items }
+        ensures files_kept { ⟦<MemoryHost as Host>⟧.files self.new
+            ≡ ⟦<MemoryHost as Host>⟧.files self.old }
+        ensures ports_kept { self.new.ports.items ≡ self.old.ports.items }
+        ensures clocks_kept { self.new.clocks.items ≡ self.old.clocks.items }
+        ensures binds_kept { ⟦<MemoryHost as Host>⟧.binds self.new
+            ≡ ⟦<MemoryHost as Host>⟧.binds self.old }
+        ensures origin_kept { ⟦<MemoryHost as Host>⟧.origin self.new
+            ≡ ⟦<MemoryHost as Host>⟧.origin self.old }
+        ensures salt_kept { ⟦<MemoryHost as Host>⟧.salt self.new
+            ≡ ⟦<MemoryHost as Host>⟧.salt self.old }
+    {
+        let opened = if self.calls.next_fails() {
+            Err(HostFault::Failed)
+        } else {
+            open_first(self.files.as_slice(), name)
+        };
+        if matches!(opened, Err(HostFault::Failed)) {
+            self.faults = self.faults.saturating_add(1);
+        }
+        opened
+    }
+
     fn clock(&mut self) -> MemoryClock
         ensures clock { IsNextClock self.old.clocks.items result }
         ensures clock_new { IsNewClock result }
         ensures clocks { self.new.clocks.items ≡ drop 1 self.old.clocks.items }
 
         // The rest stays.
+        ensures file_list_kept { self.new.files.items ≡ self.old.files.items }
+        ensures files_kept { ⟦<MemoryHost as Host>⟧.files self.new
+            ≡ ⟦<MemoryHost as Host>⟧.files self.old }
         ensures ports_kept { self.new.ports.items ≡ self.old.ports.items }
-        ensures failing_kept { failing_binds self.new ≡ failing_binds self.old }
-        ensures made_kept { binds_made self.new ≡ binds_made self.old }
+        ensures failing_kept { failing_calls self.new ≡ failing_calls self.old }
+        ensures made_kept { calls_made self.new ≡ calls_made self.old }
         ensures binds_kept { ⟦<MemoryHost as Host>⟧.binds self.new
             ≡ ⟦<MemoryHost as Host>⟧.binds self.old }
         ensures faults_same { ⟦<MemoryHost as Host>⟧.faults self.new
@@ -188,8 +248,10 @@ mod tests {
     use super::*;
     use crate::clock::Clock;
     use crate::memory_port::Incoming;
+    use crate::name::Name;
     use crate::octets::Octets;
     use crate::port::{Port, Taken};
+    use crate::source::{Failed, read_whole};
     use net_addr::Ip;
     use std::test::Fail;
 
@@ -205,6 +267,7 @@ mod tests {
         let clock = MemoryClock::of(vec![in alloc; 7]?);
         let mut host = MemoryHost::of(
             alloc,
+            Vec::new(alloc),
             vec![in alloc; quiet]?,
             vec![in alloc; clock]?,
             Ntp64(0x83aa_7e80 << 32),
@@ -219,6 +282,44 @@ mod tests {
         assert_eq!(rt; host.clock().now(), 0);
         assert_eq!(rt; host.origin(), Ntp64(0x83aa_7e80 << 32));
         assert_eq!(rt; host.salt().0, [3; 16]);
+        Ok(())
+    }
+
+    fn file(alloc: Global, name: &[u8], octets: &[u8], failing: u64) -> Result<MemoryFile, Fail> {
+        Ok(MemoryFile {
+            name: Name::of(Vec::from_slice(alloc, name)?),
+            octets: Vec::from_slice(alloc, octets)?,
+            failing: vec![in alloc; failing]?,
+        })
+    }
+
+    #[test]
+    fn each_source_of_a_name_has_the_octets_of_its_first_file(rt: HostRuntime) -> Result<(), Fail> {
+        let alloc = rt.alloc();
+        let other = file(alloc, b"ntp.keys", b"other", 9)?;
+        let first = file(alloc, b"ntp.conf", b"first", 2)?;
+        let second = file(alloc, b"ntp.conf", b"second", 9)?;
+        let mut host = MemoryHost::of(
+            alloc,
+            vec![in alloc; other, first, second]?,
+            Vec::new(alloc),
+            Vec::new(alloc),
+            Ntp64(0),
+            Salt([3; 16]),
+            vec![in alloc; 2, 4]?,
+        );
+        for turn in ["once", "twice"] {
+            let mut source = host.source("ntp.conf")?;
+            let whole = read_whole(alloc, &mut source, 6)?;
+            assert_eq!(rt; whole.as_slice(), b"first".as_slice(), "{turn}");
+            assert_eq!(rt; source.read(&mut [0; 1]), Err(Failed), "{turn}");
+        }
+        // The calls with the numbers 2 and 4 fail, and so does a name that is not there.
+        assert!(rt; matches!(host.bind(&SERVER), Err(HostFault::Failed)));
+        assert!(rt; host.bind(&SERVER).is_ok());
+        assert!(rt; matches!(host.source("ntp.conf"), Err(HostFault::Failed)));
+        assert!(rt; matches!(host.source("ntp.con"), Err(HostFault::Failed)));
+        assert!(rt; host.source("ntp.keys").is_ok());
         Ok(())
     }
 }

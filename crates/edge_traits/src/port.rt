@@ -67,7 +67,8 @@ pub trait Port {
         ensures closed { result ≡ Ok Taken.Closed → IsTrue (is_closed self.new) }
         ensures closed_kept { result ≡ Ok Taken.Closed → self.new ≡ self.old }
         ensures closed_into { result ≡ Ok Taken.Closed → into.new ≡ into.old }
-        ensures failed { IsErrOf result PortFault.Failed → Rose 1 (faults self.old) (faults self.new) }
+        ensures failed { IsErrOf result PortFault.Failed
+            → Rose 1 (faults self.old) (faults self.new) }
         ensures err { OnErr result (into.new ≡ into.old) }
 
         // The counts never fall, and the port stays the one that it is.
@@ -81,7 +82,8 @@ pub trait Port {
         requires { length octets.now ≤ most self.old }
         ensures told { trace self.new
             ≡ gained (trace self.old) (given_events result to.now octets.now) }
-        ensures failed { IsErrOf result PortFault.Failed → Rose 1 (faults self.old) (faults self.new) }
+        ensures failed { IsErrOf result PortFault.Failed
+            → Rose 1 (faults self.old) (faults self.new) }
 
         // The counts never fall, and the port stays the one that it is.
         ensures faults_kept { faults self.old ≤ faults self.new }

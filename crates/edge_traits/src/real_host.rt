@@ -1,6 +1,7 @@
 ghost use Rattle.std.specs.Prelude.{◌≡◌, ◌+◌, ◌*◌, ◌/◌, ◌%◌, ◌^◌};
 ghost use Rattle.std.specs.Duration.{as_nanos};
 
+use crate::file_source::FileSource;
 use crate::host::{Host, HostFault};
 use crate::salt::Salt;
 use crate::udp_port::UdpPort;
@@ -9,14 +10,17 @@ use fixed_time::Ntp64;
 use net_addr::Addr;
 use std::net::Net;
 use std::random::RandomSource;
-use std::time;
+use std::rt::Files;
 use std::time::{Duration, Instant};
+use std::{fs, time};
 
 /// The seconds from the epoch of NTP, 1900, to that of the system, 1970 (RFC 5905, section 6).
 const SECONDS_TO_1970: u128 = 2_208_988_800;
 
-/// The machine that the program runs on. All of its clocks begin at the moment at which it was
-/// made, so its origin and a reading add up to the wall clock's time, until that clock is set.
+/// The machine that the program runs on. Its origin is what the wall clock showed as it was made,
+/// and its clocks begin at that moment, or where the system's clock could not be read then, each at
+/// its first reading. No clause ties the origin to the clocks. It tells neither its binds nor its
+/// files, and a name stands for whatever the system opens under it.
 #[derive(Drop)]
 pub struct RealHost<S> {
     system: S,
@@ -26,7 +30,7 @@ pub struct RealHost<S> {
     faults: u64,
 }
 
-impl<S: Net + time::Clock + RandomSource + Copy> RealHost<S> {
+impl<S: Files + Net + time::Clock + RandomSource + Copy> RealHost<S> {
     /// The origin is 0 where the wall clock can't be read, and the salt has zero octets where the
     /// system gives no random ones.
     pub fn new(system: S) -> RealHost<S>
@@ -45,14 +49,18 @@ impl<S: Net + time::Clock + RandomSource + Copy> RealHost<S> {
     }
 }
 
-impl<S: Net + time::Clock + RandomSource + Copy> Host for RealHost<S> {
+impl<S: Files + Net + time::Clock + RandomSource + Copy> Host for RealHost<S> {
     ghost use Rattle.std.specs.Prelude.{None};
 
     type P = UdpPort;
 
     type C = Uptime<S>;
 
+    type S = FileSource<S::File>;
+
     ghost binds = { λ _. None };
+
+    ghost files = { λ _ _. None };
 
     ghost faults = { λ h. h.faults };
 
@@ -63,6 +71,16 @@ impl<S: Net + time::Clock + RandomSource + Copy> Host for RealHost<S> {
     fn bind(&mut self, at: &Addr) -> Result<UdpPort, HostFault> {
         match UdpPort::bind(&self.system, at) {
             Ok(port) => Ok(port),
+            Err(_) => {
+                self.faults = self.faults.saturating_add(1);
+                Err(HostFault::Failed)
+            }
+        }
+    }
+
+    fn source(&mut self, name: &str) -> Result<FileSource<S::File>, HostFault> {
+        match fs::open(&self.system, name) {
+            Ok(file) => Ok(FileSource::of(file)),
             Err(_) => {
                 self.faults = self.faults.saturating_add(1);
                 Err(HostFault::Failed)
@@ -108,10 +126,11 @@ fn random_salt(source: &impl RandomSource) -> Salt {
 mod tests {
     use super::*;
     use crate::clock::Clock;
+    use crate::source::{ReadFault, Source, read_whole};
     use net_addr::Ip;
-    use std::io;
     use std::io::ErrorKind;
     use std::test::Fail;
+    use std::{io, process};
 
     #[test]
     fn a_timestamp_counts_from_1900_in_its_era(rt: HostRuntime) {
@@ -156,6 +175,44 @@ mod tests {
         let mut host = RealHost::new(rt);
         let reading = host.clock().now();
         assert!(rt; host.clock().now() >= reading);
+    }
+
+    #[test]
+    fn a_file_of_the_system_is_read_whole(rt: HostRuntime) -> Result<(), Fail> {
+        let alloc = rt.alloc();
+        let name = format!(in alloc; "/tmp/edge_traits_{}", process::id(rt.process()))?;
+        let octets = vec![in alloc; 7u8; 10_000]?;
+        fs::write(&rt, name.as_str(), octets.as_slice())?;
+        let mut host = RealHost::new(rt);
+        let mut source = host.source(name.as_str())?;
+        let whole = read_whole(alloc, &mut source, 10_000)?;
+        fs::remove_file(&rt, name.as_str())?;
+        assert!(rt; whole.as_slice() == octets.as_slice());
+        assert!(rt; matches!(host.source(name.as_str()), Err(HostFault::Failed)));
+        Ok(())
+    }
+
+    #[test]
+    fn an_endless_file_is_too_long_and_a_directory_fails_as_it_is_read(
+        rt: HostRuntime,
+    ) -> Result<(), Fail> {
+        let alloc = rt.alloc();
+        let mut host = RealHost::new(rt);
+        let mut endless = host.source("/dev/zero")?;
+        assert!(rt;
+            matches!(
+                read_whole(alloc, &mut endless, 5_000),
+                Err(ReadFault::TooLong)
+            )
+        );
+        let mut directory = host.source("/dev")?;
+        assert!(rt;
+            matches!(
+                read_whole(alloc, &mut directory, 5_000),
+                Err(ReadFault::Failed)
+            )
+        );
+        Ok(())
     }
 
     /// A system whose wall clock can't be read, and whose random source fails after one octet.

@@ -24,7 +24,8 @@ pub trait Sink {
         ensures told { contents self.new ≡ gained (contents self.old) (written result from.now) }
         ensures within { IfOk result (λ n. n ≤ length from.now) }
         ensures progress { IfOk result (λ n. 0 < length from.now → 0 < n) }
-        ensures failed { IsErrOf result SinkFault.Failed → Rose 1 (faults self.old) (faults self.new) }
+        ensures failed { IsErrOf result SinkFault.Failed
+            → Rose 1 (faults self.old) (faults self.new) }
         ensures faults_kept { faults self.old ≤ faults self.new };
 }
 
@@ -33,7 +34,8 @@ pub fn write_whole<S: Sink>(sink: &mut S, from: &[u8]) -> Result<(), SinkFault>
     ensures whole { OnOk result (S.contents sink.new ≡ gained (S.contents sink.old) from.now) }
     ensures front { OnErr result
         (GainedFront (S.contents sink.old) (S.contents sink.new) from.now) }
-    ensures failed { IsErrOf result SinkFault.Failed → Rose 1 (S.faults sink.old) (S.faults sink.new) }
+    ensures failed { IsErrOf result SinkFault.Failed
+        → Rose 1 (S.faults sink.old) (S.faults sink.new) }
     ensures faults_kept { S.faults sink.old ≤ S.faults sink.new }
 {
     let mut done = 0;

@@ -24,7 +24,7 @@ impl<S> Model for Uptime<S> {
 }
 
 impl<S: time::Clock> Uptime<S> {
-    /// A clock that begins now, or where the system's clock can't be read now, at its first reading.
+    /// A clock that begins now, or where the system's clock can't be read, at its first reading.
     pub fn new(system: S) -> Uptime<S>
         ensures { result ≡ 0 }
     {

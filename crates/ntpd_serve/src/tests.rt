@@ -116,7 +116,15 @@ fn run_over(
     ports.push(MemoryPort::of(alloc, incoming, failing_gives))?;
     let mut clocks = Vec::new(alloc);
     clocks.push(MemoryClock::of(vec![in alloc; SECOND]?))?;
-    let mut host = MemoryHost::of(alloc, ports, clocks, ORIGIN, Salt([0; 16]), Vec::new(alloc));
+    let mut host = MemoryHost::of(
+        alloc,
+        Vec::new(alloc),
+        ports,
+        clocks,
+        ORIGIN,
+        Salt([0; 16]),
+        Vec::new(alloc),
+    );
     let mut out = MemorySink::of(alloc, failing_writes);
     let words = words_of(alloc, texts)?;
     let ended = ntpd(rt, alloc, words.as_slice(), &mut host, &OpenGate, &mut out);
@@ -502,6 +510,7 @@ fn a_host_that_gives_no_port_has_its_status(rt: HostRuntime) -> Result<(), Fail>
     let failing = vec![in alloc; 0u64]?;
     let mut host = MemoryHost::of(
         alloc,
+        Vec::new(alloc),
         Vec::new(alloc),
         Vec::new(alloc),
         ORIGIN,
