@@ -1,2 +1,4 @@
+pub mod FeedbackLemmas
+pub mod FrequencyLemmas
 pub mod SoftClockLemmas
 mod StandardFacts

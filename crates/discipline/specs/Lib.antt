@@ -1,1 +1,5 @@
+pub mod Feedback
+pub mod Frequency
+pub mod Slew
 pub mod SoftClock
+pub mod Transitions

@@ -16,3 +16,7 @@ unfoldable pub clock_time : SoftClock → ℕ → ℕ
 clock_time clock moment =
     let since = moment - clock.base in
     timestamp_of (pos (clock.ntp.0 + since) +ℤ share_of since clock.freq +ℤ share_of (min since (64 * 2 ^ 32)) clock.slew)
+
+-- the clock counted on from another moment, without its slew
+abbrev pub rebased : SoftClock → ℕ → SoftClock
+rebased clock now = record { base = now; ntp = record { 0 = clock_time clock now }; freq = clock.freq; slew = pos 0 }

@@ -1,5 +1,5 @@
 ghost use Rattle.std.specs.Prelude.{◌≡◌, ◌^◌, pos, ◌≤ℤ◌, neg_ℤ};
-ghost use Rattle.discipline.specs.SoftClock.{share_of, timestamp_of, clock_time};
+ghost use Rattle.discipline.specs.SoftClock.{share_of, timestamp_of, clock_time, rebased};
 
 use fixed_time::Ntp64;
 
@@ -29,6 +29,18 @@ impl SoftClock {
         let slewed = share(since.min(SLEWED), self.slew);
         let passed = i128::from(self.ntp.0) + i128::from(since);
         wrapped(passed + drifted + slewed)
+    }
+
+    /// The same time counted on from another moment, without the slew.
+    pub(crate) fn rebase(&self, now: u64) -> SoftClock
+        ensures { result ≡ rebased self.now now }
+    {
+        SoftClock {
+            base: now,
+            ntp: self.at(now),
+            freq: self.freq,
+            slew: 0,
+        }
     }
 }
 

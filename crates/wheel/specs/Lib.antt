@@ -1,0 +1,2 @@
+pub mod DueTimes
+pub mod Passing
