@@ -8,3 +8,4 @@ pub mod Memory
 pub mod MemorySources
 pub mod MemoryFiles
 pub mod MemoryHosts
+pub mod Sockets

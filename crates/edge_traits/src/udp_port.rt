@@ -1,20 +1,22 @@
 ghost use Rattle.std.specs.Prelude.{◌≡◌, IfOk};
-ghost use Rattle.std.specs.Net.Addr.{ipv4_octets};
-ghost use Rattle.std.specs.Net.Socket.{v4_ip, v4_port};
+ghost use Rattle.std.specs.Net.Addr.{ipv6_octets};
+ghost use Rattle.std.specs.Net.Socket.{IsPlainSocket, socket_ip, socket_port};
+ghost use Rattle.edge_traits.specs.Sockets.{ip_in};
 
 use crate::octets::Octets;
 use crate::port::{Port, PortFault, Taken};
 use net_addr::{Addr, Ip};
 use std::io;
 use std::io::ErrorKind;
-use std::net::{Ipv4Addr, Net, SocketAddr, SocketAddrV4, UdpSocket};
+use std::net::{IpAddr, Ipv4Addr, Ipv6Addr, Net, SocketAddr, UdpSocket};
 use std::time::Duration;
 
 /// How long a take waits for a datagram, in seconds.
 const WAIT: u64 = 1;
 
-/// A UDP socket of the system, for IPv4. A take waits one second for a datagram before it is quiet.
-/// The port is never closed, and tells nothing of its datagrams.
+/// A UDP socket of the system, of the family of its address. A take waits one second for a datagram
+/// before it is quiet. The port is never closed, and tells nothing of its datagrams. It knows no
+/// zones: a datagram to a link-local address, whose interface it would name, may fail.
 #[derive(Drop)]
 pub struct UdpPort {
     socket: UdpSocket,
@@ -48,8 +50,8 @@ impl UdpPort {
     /// The address that the system gave the socket; None where the system does not tell it.
     pub fn local(&self) -> Option<Addr> {
         match self.socket.local_addr() {
-            Ok(SocketAddr::V4(local)) => Some(address_of(local)),
-            _ => None,
+            Ok(local) => Some(address_of(local)),
+            Err(_) => None,
         }
     }
 }
@@ -72,15 +74,10 @@ impl Port for UdpPort {
 
     fn take(&mut self, into: &mut Octets) -> Result<Taken, PortFault> {
         match self.socket.recv_from(&mut self.received) {
-            Ok((length, SocketAddr::V4(from))) => {
+            Ok((length, from)) => {
                 into.clear();
                 into.put(&self.received[..length]);
                 Ok(Taken::Datagram(address_of(from)))
-            }
-            // A socket for IPv4 hears of no other sender.
-            Ok((_, SocketAddr::V6(_))) => {
-                self.quiets = self.quiets.saturating_add(1);
-                Ok(Taken::Quiet)
             }
             Err(error) if is_quiet(error.kind()) => {
                 self.quiets = self.quiets.saturating_add(1);
@@ -115,21 +112,40 @@ fn is_quiet(kind: ErrorKind) -> bool {
     }
 }
 
-fn socket_address(at: &Addr) -> SocketAddrV4
-    ensures ip { Ip.V4 (ipv4_octets (v4_ip result)) ≡ at.now.ip }
-    ensures port { v4_port result ≡ at.now.port }
+/// An address as the system takes it, without a zone.
+fn socket_address(at: &Addr) -> SocketAddr
+    ensures ip { ip_in (socket_ip result) ≡ at.now.ip }
+    ensures plain { IsPlainSocket result at.now.port }
 {
-    match at.ip {
-        Ip::V4(octets) => SocketAddrV4::new(Ipv4Addr::from_octets(octets), at.port),
+    SocketAddr::new(system_ip(&at.ip), at.port)
+}
+
+fn system_ip(ip: &Ip) -> IpAddr
+    ensures { ip_in result ≡ ip.now }
+{
+    match ip {
+        Ip::V4(octets) => IpAddr::V4(Ipv4Addr::from_octets(*octets)),
+        Ip::V6(octets) => IpAddr::V6(system_v6(octets)),
     }
 }
 
-fn address_of(at: SocketAddrV4) -> Addr
-    ensures ip { result.ip ≡ Ip.V4 (ipv4_octets (v4_ip at)) }
-    ensures port { result.port ≡ v4_port at }
+fn system_v6(octets: &[u8; 16]) -> Ipv6Addr
+    ensures { ipv6_octets result ≡ octets.now }
 {
+    Ipv6Addr::from_octets(*octets)
+}
+
+/// An address that the system tells; a zone that it has is dropped.
+fn address_of(at: SocketAddr) -> Addr
+    ensures ip { result.ip ≡ ip_in (socket_ip at) }
+    ensures port { result.port ≡ socket_port at }
+{
+    let ip = match at.ip() {
+        IpAddr::V4(ip) => Ip::V4(ip.octets()),
+        IpAddr::V6(ip) => Ip::V6(ip.octets()),
+    };
     Addr {
-        ip: Ip::V4(at.ip().octets()),
+        ip,
         port: at.port(),
     }
 }
@@ -162,6 +178,26 @@ mod tests {
         assert_eq!(rt; into.as_slice(), b"\x23\x00\x06\xec".as_slice());
 
         assert_eq!(rt; port.take(&mut into)?, Taken::Quiet);
+        assert_eq!(rt; into.as_slice(), b"\x23\x00\x06\xec".as_slice());
+        Ok(())
+    }
+
+    // Where the system has no IPv6, there is nothing to try.
+    #[test]
+    fn a_port_of_ipv6_sends_to_itself(rt: HostRuntime) -> Result<(), Fail> {
+        let at = Addr {
+            ip: Ip::V6([0, 0, 0, 0, 0, 0, 0, 0, 0, 0, 0, 0, 0, 0, 0, 1]),
+            port: 0,
+        };
+        let Ok(mut port) = UdpPort::bind(&rt, &at) else {
+            return Ok(());
+        };
+        let local = port.local().ok_or("the system tells no address")?;
+        assert_eq!(rt; local.ip, at.ip);
+
+        let mut into = Octets::new();
+        port.give(&local, b"\x23\x00\x06\xec")?;
+        assert_eq!(rt; port.take(&mut into)?, Taken::Datagram(local));
         assert_eq!(rt; into.as_slice(), b"\x23\x00\x06\xec".as_slice());
         Ok(())
     }

@@ -1,2 +1,6 @@
+pub mod GroupLemmas
+pub mod NumberLemmas
+pub mod NumberTextLemmas
+pub mod PrefixLemmas
 pub mod SpellingLemmas
 mod StandardFacts

@@ -1,1 +1,4 @@
+pub mod Addresses
+pub mod Cuts
+pub mod Prefixes
 pub mod Spelling

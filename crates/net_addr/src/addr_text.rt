@@ -1,14 +1,19 @@
-ghost use Rattle.std.specs.Prelude.{◌≡◌, ◌+◌, ◌^◌, ◌<◌, ◌≤◌, [], ◌∷◌, ◌++◌, length, decimal};
+ghost use Rattle.std.specs.Prelude.{◌≡◌, ◌+◌, ◌^◌, ◌<◌, ◌≤◌, [], ◌∷◌, ◌++◌, length, codes, decimal};
 ghost use Rattle.std.specs.Net.Text.{ipv4_text};
-ghost use Rattle.net_addr.specs.Spelling.{ip_text, text_of, IsIp, IsAddr};
+ghost use Rattle.net_addr.specs.Addresses.{IsIp, IsAddr};
+ghost use Rattle.net_addr.specs.Spelling.{ip_text, text_of, Spells, SpellsIp};
 ghost use Rattle.net_addr.specs.declared.addr.Ip.{Ip};
 
 use crate::addr::{Addr, Ip};
+use crate::groups::ipv6_text;
 use itoa::Buffer;
 use std::marker::Model;
 
 /// The most octets that a text has.
 const CAPACITY: usize = 48;
+
+/// The octets of the longest text of an IPv6 address: eight groups of four digits, and colons.
+pub(crate) const LONGEST_V6: usize = 39;
 
 /// The text of an address: a list of at most 48 octets, kept in place.
 #[derive(Drop)]
@@ -29,7 +34,7 @@ impl Model for AddrText {
 }
 
 impl AddrText {
-    fn new() -> AddrText
+    pub(crate) fn new() -> AddrText
         ensures { result ≡ [] }
     {
         AddrText {
@@ -54,7 +59,7 @@ impl AddrText {
         &self.octets[..self.used]
     }
 
-    fn append(&mut self, more: &[u8])
+    pub(crate) fn append(&mut self, more: &[u8])
         requires { length self.old + length more.now ≤ CAPACITY }
         ensures { self.new ≡ self.old ++ more.now }
     {
@@ -87,7 +92,7 @@ impl AddrText {
 fn ipv4_text(octets: &[u8; 4]) -> AddrText
     ensures text { result ≡ ipv4_text octets.now }
     ensures fits { IsIp (Ip.V4 octets.now) }
-    ensures short { length result ≤ 23 }
+    ensures short { length result ≤ LONGEST_V6 }
 {
     let mut text = AddrText::new();
     text.append_decimal(u16::from(octets[0]));
@@ -97,22 +102,46 @@ fn ipv4_text(octets: &[u8; 4]) -> AddrText
     text
 }
 
-fn ip_text(ip: &Ip) -> AddrText
+/// The text of an IP address: `1.2.3.4`, or for IPv6 that of RFC 5952, section 4, without a dotted
+/// tail: `2001:db8::1`, `::ffff:c000:201`.
+#[tactic(auto, unfolding(crate::specs::Spelling::ip_text))]
+pub fn write_ip(ip: &Ip) -> AddrText
     ensures text { result ≡ ip_text ip.now }
+    ensures spelled { SpellsIp result ip.now }
     ensures fits { IsIp ip.now }
-    ensures short { length result ≤ 23 }
+    ensures short { length result ≤ LONGEST_V6 }
 {
     match ip {
         Ip::V4(octets) => ipv4_text(octets),
+        Ip::V6(octets) => ipv6_text(octets),
     }
 }
 
-/// The text of an address: of `1.2.3.4` and port 123, `1.2.3.4:123`.
+/// The text of an address: `1.2.3.4:123`, `[::1]:123`.
+#[tactic(auto, unfolding(crate::specs::Spelling::text_of))]
 pub fn write_text(a: &Addr) -> AddrText
     ensures text { result ≡ text_of a.now }
+    ensures spelled { Spells result a.now }
     ensures fits { IsAddr a.now }
 {
-    let mut text = ip_text(&a.ip);
+    let ip = write_ip(&a.ip);
+    let mut text = match a.ip {
+        Ip::V4(_) => ip,
+        Ip::V6(_) => bracketed(&ip),
+    };
     text.append_after(b':', a.port);
+    text
+}
+
+/// A text in brackets.
+fn bracketed(inner: &AddrText) -> AddrText
+    requires { length inner.now ≤ LONGEST_V6 }
+    ensures text { result ≡ codes "[" ++ inner.now ++ codes "]" }
+    ensures short { length result ≤ LONGEST_V6 + 2 }
+{
+    let mut text = AddrText::new();
+    text.append(b"[");
+    text.append(inner.as_slice());
+    text.append(b"]");
     text
 }
