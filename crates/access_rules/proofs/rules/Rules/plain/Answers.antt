@@ -1,0 +1,28 @@
+use Rattle.std.proofs.Common.{List, [], ◌∷◌, ◌++◌, refl, ap, ◌∙◌}
+use Rattle.net_addr.specs.Addresses.{bits_of, number_of}
+use Rattle.access_rules.specs.Rules.{IsPlain}
+use Rattle.access_rules.specs.declared.rules.Rule.{Rule}
+use Rattle.access_rules.proofs.RuleLemmas.{IsPlain-two}
+use Rattle.access_rules.proofs.rules.Rules.plain.Goals as goal
+
+pub default_of-requires : goal.default_of-requires
+unfolding number_of
+default_of-requires c = refl
+
+pub default_of-requires-2 : goal.default_of-requires-2
+unfolding number_of
+default_of-requires-2 c = refl
+
+is_plain : (c : goal.In_ok-push-2) → IsPlain c.push-2.new.self.items
+is_plain c =
+    IsPlain-two c.push-2.new.self.items c.default_of.result c.default_of-2.result
+    (c.in_ok-push-2.ensures.items ∙ ap (λ (rules : List Rule). rules ++ c.default_of-2.result ∷ [])
+    (c.in_ok-push.ensures.items ∙ ap (λ (rules : List Rule). rules ++ c.default_of.result ∷ []) c.new-rules.ensures.items))
+    (ap bits_of c.default_of.ensures.ip) (ap bits_of c.default_of-2.ensures.ip)
+    c.default_of.ensures.all c.default_of-2.ensures.all c.default_of.ensures.no_flags c.default_of-2.ensures.no_flags
+
+pub invariant_of-result : goal.invariant_of-result
+invariant_of-result c = (is_plain c).table
+
+pub returns : goal.returns
+returns c = is_plain c

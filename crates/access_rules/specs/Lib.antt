@@ -1,0 +1,5 @@
+pub mod Flags
+pub mod Order
+pub mod Places
+pub mod Rates
+pub mod Rules

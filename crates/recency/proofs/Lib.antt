@@ -1,0 +1,8 @@
+pub mod AddressLemmas
+pub mod ArrivalLemmas
+pub mod ListLemmas
+pub mod PlaceLemmas
+pub mod RowLemmas
+pub mod SweepLemmas
+pub mod TouchLemmas
+pub mod WorkedFacts

@@ -1,0 +1,5 @@
+pub mod Arrivals
+pub mod Limits
+pub mod Places
+pub mod Rows
+pub mod Sweeps
