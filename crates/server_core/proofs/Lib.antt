@@ -1,5 +1,9 @@
 pub mod ClassLemmas
 pub mod ControlLemmas
+pub mod HistoryLemmas
+pub mod JournalLemmas
 pub mod ReplyLemmas
 pub mod ShownLemmas
 mod StandardFacts
+pub mod StateLemmas
+pub mod VerdictLemmas

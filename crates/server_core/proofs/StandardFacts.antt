@@ -23,7 +23,7 @@ unix = record { 0 = 0x83aa7e8000000000 }
 
 -- what a server that knows no time replies from
 abbrev basis : Basis
-basis = record { system = (opening_record unix).system; clock = (opening_record unix).clock }
+basis = record { system = (opening_record unix []).system; clock = (opening_record unix []).clock }
 
 -- a request of version 4 that left its client then
 abbrev ask : Ask

@@ -1,6 +1,11 @@
+pub mod Books
 pub mod Class
 pub mod Control
+pub mod Histories
+pub mod Journals
 pub mod Reply
+pub mod States
+pub mod Verdicts
 pub use Rattle.ntp_packet.specs.Packet
 pub use Rattle.ntp_trailer.specs.Trailers
 pub use Rattle.ntp_trailer.specs.Authentic
@@ -8,3 +13,5 @@ pub use Rattle.mac_keys.specs.Tables
 pub use Rattle.mode6_frame.specs.Frames
 pub use Rattle.mode6_frame.specs.Items
 pub use Rattle.mode6_frame.specs.Refusals
+pub use Rattle.recency.specs.Rows
+pub use Rattle.access_rules.specs.Rules

@@ -1,5 +1,5 @@
 -- The reply to a client's request (RFC 5905, sections 7.3 and 9.2; the rounding is our own rule).
-use Rattle.std.specs.Prelude.{◌≡◌, ◌⊎◌, ℕ, ◌+◌, ◌-◌, ◌==◌, min, max, if◌then◌else◌, List, [], ◌++◌, replicate, Option, None, Some, IsSome}
+use Rattle.std.specs.Prelude.{◌≡◌, ◌⊎◌, ℕ, ◌+◌, ◌-◌, ◌==◌, min, max, if◌then◌else◌, List, [], ◌++◌, replicate, Option, None, Some, IsSome, codes, negsuc}
 use Rattle.fixed_time.specs.Time.{to_short_of, drift_of}
 use Rattle.fixed_time.specs.declared.time.TheConstants.{PHI, MAX_DISPERSION}
 use Rattle.discipline.specs.SoftClock.{clock_time}
@@ -87,3 +87,26 @@ pub record Shows (keys : List Key) (auth : Auth) (octets : List ℕ) : Type 0 wh
   pub trailer : FieldsAndMac
   pub has : HasTrailer octets trailer
   pub shown : IsAuth keys octets trailer auth
+
+-- The header of the kiss code RATE (RFC 5905, section 7.4): it asks the client to slow down, tells no
+-- time, and gives back the request's own transmit time throughout (our own rule).
+unfoldable pub rate_header : Ask → Header
+rate_header ask = record {
+  leap = 3;
+  version = ask.version;
+  mode = MODE_SERVER;
+  stratum = 0;
+  poll = ask.poll;
+  precision = negsuc 19;
+  root_delay = record { 0 = 0 };
+  root_disp = record { 0 = 0 };
+  refid = codes "RATE";
+  reference = record { 0 = 0 };
+  origin = ask.transmit;
+  receive = ask.transmit;
+  transmit = ask.transmit;
+}
+
+-- the octets of that reply, which has no MAC
+unfoldable pub rate_reply_of : Ask → List ℕ
+rate_reply_of ask = spelled_header (rate_header ask)

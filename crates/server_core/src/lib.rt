@@ -5,12 +5,31 @@
 //! which has a MAC where the request has a good one, and a crypto-NAK where it has a bad one.
 #![tactic(auto)]
 
+mod arriving;
+pub mod book;
 pub mod class;
 pub mod classing;
 pub mod control;
+mod index;
+pub mod journal;
+pub mod kiss;
+mod looking;
+pub mod op;
+pub mod performing;
+mod refusing;
 pub mod reply;
+pub mod step;
+mod stepping;
+pub mod verdict;
 
+pub use book::Book;
 pub use class::{Ask, Class, MODE_CLIENT, MODE_CONTROL, Unheard};
 pub use classing::classify;
 pub use control::READ_VARIABLES;
+pub use journal::Journal;
+pub use kiss::{RATE, rate_reply};
+pub use op::{MAX_ENTRIES, MAX_PUBLICATIONS, Op, Stop, Why};
+pub use performing::{Answers, perform};
 pub use reply::{Basis, time_reply};
+pub use step::{Reply, StepFault};
+pub use verdict::{CURRENT_VERSION, Verdict};

@@ -115,6 +115,8 @@ mod tests {
     use super::*;
     use fixed_time::Ntp64;
     use net_addr::{Addr, Ip};
+    use std::alloc::{AllocError, Global};
+    use std::test::Fail;
     use sys_vars::Record;
 
     /// The origin of Unix time.
@@ -132,26 +134,27 @@ mod tests {
     };
 
     /// What a server's first reply is made of, whose clock begins at the origin of Unix time.
-    fn opening() -> Basis {
-        let record = Record::opening(UNIX);
-        Basis {
+    fn opening(alloc: Global) -> Result<Basis, AllocError> {
+        let record = Record::opening(alloc, UNIX)?;
+        Ok(Basis {
             system: record.system,
             clock: record.clock,
-        }
+        })
     }
 
     #[test]
-    fn a_server_that_knows_no_time_says_so(rt: HostRuntime) {
+    fn a_server_that_knows_no_time_says_so(rt: HostRuntime) -> Result<(), Fail> {
         let keys = KeyTable::new(rt.alloc());
-        let reply = time_reply(&opening(), &ASK, &keys, 1 << 32, 1 << 32);
+        let reply = time_reply(&opening(rt.alloc())?, &ASK, &keys, 1 << 32, 1 << 32);
         let octets = *b"\xe4\x00\x06\xec\x00\x00\x00\x00\x00\x10\x00\x00INIT\
             \x00\x00\x00\x00\x00\x00\x00\x00\x83\xaa\x7e\x80\x00\x00\x00\x00\
             \x83\xaa\x7e\x81\x00\x00\x00\x00\x83\xaa\x7e\x81\x00\x00\x00\x00";
         assert!(rt; reply.as_slice() == octets.as_slice());
+        Ok(())
     }
 
     #[test]
-    fn dispersion_grows_by_15_seconds_in_a_million(rt: HostRuntime) {
+    fn dispersion_grows_by_15_seconds_in_a_million(rt: HostRuntime) -> Result<(), Fail> {
         // 0.015 seconds in 1000: 983.04 of 2^-16 seconds.
         let cases = [
             ("nothing has passed", 5, 5, 5 << 32, 5 << 16),
@@ -159,18 +162,20 @@ mod tests {
             ("it has the maximum", 5, 6, 16 << 32, 16 << 16),
         ];
         for (message, at, came, root_disp, shown) in cases {
-            let mut basis = opening();
+            let mut basis = opening(rt.alloc())?;
             basis.system.at = at << 32;
             basis.system.root_disp = root_disp;
             let dispersion = root_dispersion(&basis.system, came << 32);
             assert_eq!(rt; dispersion, Short(shown), "{message}");
         }
+        Ok(())
     }
 
     #[test]
-    fn nothing_is_sent_before_it_came(rt: HostRuntime) {
-        let header = header_of(&opening(), &ASK, 2 << 32, 1 << 32);
+    fn nothing_is_sent_before_it_came(rt: HostRuntime) -> Result<(), Fail> {
+        let header = header_of(&opening(rt.alloc())?, &ASK, 2 << 32, 1 << 32);
         assert_eq!(rt; header.receive, Ntp64(0x83aa_7e82_0000_0000));
         assert_eq!(rt; header.transmit, header.receive);
+        Ok(())
     }
 }

@@ -1,12 +1,15 @@
 -- The answer to a control request (RFC 9327, sections 2, 3.4 and 4), as a function of one record.
-use Rattle.std.specs.Prelude.{ℕ, ◌==◌, not, nat_lt, true, false, if◌then◌else◌, Option, Some, None, List, [], ◌∷◌, ◌++◌, length, codes}
-use Rattle.std.specs.List.{list_any, join_by}
+use Rattle.std.specs.Prelude.{ℕ, ◌+◌, ◌≤◌, ◌==◌, Bool, ◌||◌, not, nat_lt, true, false, if◌then◌else◌, Option, Some, None, List, [], ◌∷◌, ◌++◌, length, codes}
+use Rattle.std.specs.List.{AllByRecursion, list_any, join_by}
+use Rattle.access_rules.specs.declared.flags.TheConstants.{IGNORE, NOQUERY}
+use Rattle.access_rules.specs.Flags.{has_flag}
+use Rattle.access_rules.specs.Rules.{flags_of}
 use Rattle.mode6_frame.specs.declared.items.Item.{Item}
 use Rattle.mode6_frame.specs.declared.message.Head.{Head}
-use Rattle.mode6_frame.specs.declared.message.TheConstants.{MAX_BODY}
+use Rattle.mode6_frame.specs.declared.message.TheConstants.{HEAD_LEN, MAX_BODY}
 use Rattle.mode6_frame.specs.Frames.{FrameParts, spelled_frame, error_parts}
 use Rattle.sys_vars.specs.declared.answer.Answer.{Answer}
-use Rattle.sys_vars.specs.declared.answer.Answer.TheVariants.{Given}
+use Rattle.sys_vars.specs.declared.answer.Answer.TheVariants.{Ignored, Given}
 use Rattle.sys_vars.specs.declared.answering.TheConstants.{BAD_FORMAT, BAD_ASSOCIATION, BAD_NAME}
 use Rattle.sys_vars.specs.declared.asked.Asked.{Asked}
 use Rattle.sys_vars.specs.declared.asked.What.{What}
@@ -72,6 +75,15 @@ gram_for rec head (Vars names) = vars_gram rec head names
 abbrev pub gram_of : Record → Asked → List ℕ
 gram_of rec asked = gram_for rec asked.head asked.what
 
--- the answer to a request, one datagram, is made of the record of this epoch
+-- the flags of the sender refuse every datagram, or every control message
+abbrev pub is_refused : Record → Asked → Bool
+is_refused rec asked = has_flag (flags_of rec.rules asked.from.ip) IGNORE || has_flag (flags_of rec.rules asked.from.ip) NOQUERY
+
+-- the answer to a request: none where the sender is refused, otherwise one datagram, made of the record of this epoch
 abbrev pub answer_of : Record → Asked → Answer
-answer_of rec asked = Given rec.epoch (gram_of rec asked ∷ [])
+answer_of rec asked = if is_refused rec asked then Ignored else Given rec.epoch (gram_of rec asked ∷ [])
+
+-- no datagram of an answer is longer than a control message can be
+abbrev pub IsWithin : Answer → Type 0
+IsWithin Ignored = Unit {0}
+IsWithin (Given epoch grams) = AllByRecursion (λ gram. length gram ≤ HEAD_LEN + MAX_BODY) grams

@@ -1,6 +1,9 @@
 -- What a server publishes before it knows the time: our own rule, after RFC 5905, sections 7.3 and 11.1.
-use Rattle.std.specs.Prelude.{◌*◌, ◌^◌, codes, pos, negsuc}
+use Rattle.std.specs.Prelude.{◌≡◌, ◌*◌, ◌^◌, List, codes, pos, negsuc}
 use Rattle.std.proofs.Common.{lit≤}
+use Rattle.access_rules.specs.Rates.{plain_rate}
+use Rattle.access_rules.specs.Rules.{IsPlain}
+use Rattle.access_rules.specs.declared.rules.Rule.{Rule}
 use Rattle.fixed_time.specs.declared.time.Ntp64.{Ntp64}
 use Rattle.discipline.specs.declared.state.State.TheVariants.{Nset}
 use Rattle.sys_vars.specs.declared.published.Record.{Record}
@@ -32,10 +35,16 @@ opening_system = record {
   code_in = lit≤ tt;
 }
 
--- the first record of a server: that system, and a clock that counts from the origin
-abbrev pub opening_record : Ntp64 → Record
-opening_record origin = record {
+-- the first record of a server over these rules: that system, the plain rate, and a clock that counts from the origin
+abbrev pub opening_record : Ntp64 → List Rule → Record
+opening_record origin rules = record {
   epoch = 0;
   system = opening_system;
+  rules = rules;
+  rate = plain_rate;
   clock = record { base = 0; ntp = origin; freq = pos 0; slew = pos 0 };
 }
+
+-- the first record of a server, whose rules refuse nobody
+abbrev pub IsOpening : Ntp64 → Record → Type 0
+IsOpening origin rec = (rules : List Rule) × IsPlain rules × (rec ≡ opening_record origin rules)

@@ -1,6 +1,6 @@
 ghost use Rattle.std.specs.Prelude.{◌≡◌, ◌≤◌, ◌+◌, ◌++◌, ◌==◌, if◌then◌else◌, [], IfOk, OnOk, length, codes};
 ghost use Rattle.mode6_frame.specs.Frames.{spelled_frame};
-ghost use Rattle.sys_vars.specs.Answers.{answer_of, gram_of, vars_gram, text_gram, response_parts, item_text, plain_text};
+ghost use Rattle.sys_vars.specs.Answers.{IsWithin, answer_of, is_refused, gram_of, vars_gram, text_gram, response_parts, item_text, plain_text};
 
 use crate::answer::Answer;
 use crate::asked::{Asked, What};
@@ -8,6 +8,7 @@ use crate::context::Context;
 use crate::published::Record;
 use crate::status::system_status;
 use crate::variables::{VarsFault, items};
+use access_rules::{IGNORE, NOQUERY, flags_for, has_flag};
 use edge_traits::{Grams, Octets};
 use mode6_frame::{Frame, HEAD_LEN, Head, Item, Items, MAX_BODY, error_gram, write};
 use std::alloc::{AllocError, Global};
@@ -28,7 +29,8 @@ pub const BAD_NAME: u8 = 5;
 ///
 /// The variables that are asked for stand in one datagram, as `stratum=16, refid=INIT`, a carriage
 /// return and a line feed. Our own rule: a text of more than 468 octets is refused as a bad format.
-/// These requests need nothing of the context.
+/// A sender whose restrict flags have `ignore` or `noquery` gets no answer. These requests need
+/// nothing of the context.
 pub fn answer(
     alloc: Global,
     rec: &Record,
@@ -36,8 +38,11 @@ pub fn answer(
     _context: &Context,
 ) -> Result<Answer, AllocError>
     ensures value { IfOk result (λ given. given ≡ answer_of rec.now a.now) }
-    ensures short { IfOk result (λ _. length (gram_of rec.now a.now) ≤ HEAD_LEN + MAX_BODY) }
+    ensures short { IfOk result IsWithin }
 {
+    if is_refused(rec, a) {
+        return Ok(Answer::Ignored);
+    }
     let gram = gram(alloc, rec, a)?;
     let mut grams = Vec::new(alloc);
     grams.push(gram)?;
@@ -45,6 +50,14 @@ pub fn answer(
         epoch: rec.epoch,
         grams: Grams::of(grams),
     })
+}
+
+/// Whether the restrict flags of the sender refuse the request.
+fn is_refused(rec: &Record, a: &Asked) -> bool
+    ensures { result ≡ is_refused rec.now a.now }
+{
+    let flags = flags_for(&rec.rules, &a.from.ip);
+    has_flag(flags, IGNORE) || has_flag(flags, NOQUERY)
 }
 
 fn gram(alloc: Global, rec: &Record, a: &Asked) -> Result<Octets, AllocError>
@@ -180,7 +193,10 @@ mod tests {
             },
             what,
         };
-        let Answer::Given { epoch, grams } = answer(alloc, rec, &asked, &CONTEXT)?;
+        let Answer::Given { epoch, grams } = answer(alloc, rec, &asked, &CONTEXT)? else {
+            assert!(rt; false, "there is no answer");
+            return Ok(Octets::new());
+        };
         assert_eq!(rt; epoch, rec.epoch);
         assert_eq!(rt; grams.len(), 1);
         Ok(grams.get(0).copy())
@@ -188,7 +204,7 @@ mod tests {
 
     #[test]
     fn variables_are_given_or_refused(rt: HostRuntime) -> Result<(), Fail> {
-        let opening = Record::opening(Ntp64(0));
+        let opening = Record::opening(rt.alloc(), Ntp64(0))?;
         let cases = [
             (
                 0,
@@ -233,7 +249,7 @@ mod tests {
 
     #[test]
     fn a_bad_request_gets_its_error(rt: HostRuntime) -> Result<(), Fail> {
-        let opening = Record::opening(Ntp64(0));
+        let opening = Record::opening(rt.alloc(), Ntp64(0))?;
         let octets = reply(&rt, rt.alloc(), &opening, 3, 0, What::Bad(3))?;
         let wanted = b"\x16\xc3\x00\x01\x03\x00\x00\x00\x00\x00\x00\x00".as_slice();
         assert!(rt; octets.as_slice() == wanted);
@@ -243,33 +259,33 @@ mod tests {
     // 53 * 8 + 4 * 11 = 468; 49 and 7 have 469, and 40 times `stratum=16` has 480.
     #[test]
     fn a_text_of_468_octets_is_the_longest(rt: HostRuntime) -> Result<(), Fail> {
-        let opening = Record::opening(Ntp64(0));
-        let mut primary = opening;
+        let opening = Record::opening(rt.alloc(), Ntp64(0))?;
+        let mut primary = Record::opening(rt.alloc(), Ntp64(0))?;
         primary.system.stratum = 1;
         let cases = [
             (
-                primary,
+                &primary,
                 53,
                 4,
                 b"\x82\x00\x01\xc0\x11\x00\x00\x00\x00\x01\xd4".as_slice(),
                 480,
             ),
             (
-                primary,
+                &primary,
                 49,
                 7,
                 b"\xc2\x00\x01\x02\x00\x00\x00\x00\x00\x00\x00".as_slice(),
                 12,
             ),
             (
-                opening,
+                &opening,
                 0,
                 39,
                 b"\x82\x00\x01\xc0\x11\x00\x00\x00\x00\x01\xd4".as_slice(),
                 480,
             ),
             (
-                opening,
+                &opening,
                 0,
                 40,
                 b"\xc2\x00\x01\x02\x00\x00\x00\x00\x00\x00\x00".as_slice(),
@@ -283,7 +299,7 @@ mod tests {
             let octets = reply(
                 &rt,
                 rt.alloc(),
-                &record,
+                record,
                 2,
                 0,
                 What::Vars(NameNumbers::of(names)),

@@ -1,7 +1,7 @@
 //! What a server publishes of itself: the system's values and its clock, as one record; and its
 //! answers to control requests for system variables (RFC 9327).
 //!
-//! Layer 4. Stands on: `discipline`, `mode6_frame`, `edge_traits`, `net_addr`, `fixed_time`.
+//! Layer 4. Stands on: `access_rules`, `discipline`, `mode6_frame`, `edge_traits`, `net_addr`, `fixed_time`.
 //! Promises: a server opens with one record, given by its values; an answer is a function of one
 //! record and the request, and comes unless memory is wanting.
 #![tactic(auto)]

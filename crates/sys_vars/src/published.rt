@@ -1,37 +1,46 @@
-ghost use Rattle.std.specs.Prelude.{◌≡◌};
-ghost use Rattle.sys_vars.specs.Opening.{opening_system, opening_record};
+ghost use Rattle.std.specs.Prelude.{◌≡◌, IfOk};
+ghost use Rattle.sys_vars.specs.Opening.{IsOpening, opening_system};
 
 use crate::system::System;
+use access_rules::{Rate, Rules};
 use discipline::{SoftClock, State};
 use fixed_time::{Ntp64, Span};
+use std::alloc::{AllocError, Global};
 
-/// What a server publishes: the values of the system and its clock, of one moment.
-#[derive(Clone, Copy, Debug, PartialEq, Eq)]
+/// What a server publishes: the values of the system and its clock, of one moment, and who may ask.
+#[derive(Drop)]
 pub struct Record {
     /// The number of the publication.
     pub epoch: u64,
     /// The values of the system.
     pub system: System,
+    /// Who may ask for what.
+    pub rules: Rules,
+    /// How often a client may ask that the rules limit.
+    pub rate: Rate,
     /// The clock that gives the time.
     pub clock: SoftClock,
 }
 
 impl Record {
     /// What a server publishes before it knows the time: it is not synchronized, and its clock begins
-    /// at the origin.
-    pub fn opening(origin: Ntp64) -> Record
-        ensures { result ≡ opening_record origin }
+    /// at the origin. Its rules refuse nobody.
+    pub fn opening(alloc: Global, origin: Ntp64) -> Result<Record, AllocError>
+        ensures { IfOk result (IsOpening origin) }
     {
-        Record {
+        let rules = Rules::plain(alloc)?;
+        Ok(Record {
             epoch: 0,
             system: opening_system(),
+            rules,
+            rate: Rate::plain(),
             clock: SoftClock {
                 base: 0,
                 ntp: origin,
                 freq: 0,
                 slew: 0,
             },
-        }
+        })
     }
 }
 

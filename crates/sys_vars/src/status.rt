@@ -29,10 +29,12 @@ mod tests {
     use super::*;
     use crate::published::Record;
     use fixed_time::Ntp64;
+    use std::test::Fail;
 
     #[test]
-    fn a_server_opens_with_one_event_and_no_source(rt: HostRuntime) {
-        let record = Record::opening(Ntp64(0));
+    fn a_server_opens_with_one_event_and_no_source(rt: HostRuntime) -> Result<(), Fail> {
+        let record = Record::opening(rt.alloc(), Ntp64(0))?;
         assert_eq!(rt; system_status(&record.system), 0xc011);
+        Ok(())
     }
 }

@@ -154,7 +154,7 @@ mod tests {
 
     #[test]
     fn all_variables_are_given_where_none_is_named(rt: HostRuntime) -> Result<(), Fail> {
-        let opening = Record::opening(Ntp64(0));
+        let opening = Record::opening(rt.alloc(), Ntp64(0))?;
         let given = items(rt.alloc(), &opening, 0, &[]);
         assert!(rt; given.is_ok());
         if let Ok(given) = given {
@@ -167,8 +167,8 @@ mod tests {
     }
 
     #[test]
-    fn the_association_is_judged_before_the_names(rt: HostRuntime) {
-        let opening = Record::opening(Ntp64(0));
+    fn the_association_is_judged_before_the_names(rt: HostRuntime) -> Result<(), Fail> {
+        let opening = Record::opening(rt.alloc(), Ntp64(0))?;
         let cases = [
             (9, b"\xff".as_slice(), VarsFault::UnknownAssociation),
             (0, b"\x03".as_slice(), VarsFault::UnknownName { place: 0 }),
@@ -182,5 +182,6 @@ mod tests {
             let refused = items(rt.alloc(), &opening, assoc, names).err();
             assert_eq!(rt; refused, Some(fault), "{names:?}");
         }
+        Ok(())
     }
 }

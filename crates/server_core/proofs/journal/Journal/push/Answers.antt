@@ -1,0 +1,12 @@
+use Rattle.std.proofs.Common.{arith}
+use Rattle.server_core.proofs.JournalLemmas.{IsIndexed-pushed, publications-at_most}
+use Rattle.server_core.proofs.journal.Journal.push.Goals as goal
+
+pub index_with-self-inside-requires : goal.index_with-self-inside-requires
+index_with-self-inside-requires c = publications-at_most _ _ _ c.self.invariant.0 c.self.view_is c.requires.is_open
+
+pub invariant_of-self : goal.invariant_of-self
+invariant_of-self c = (
+  IsIndexed-pushed _ _ _ c.args.op c.self.invariant.0 c.self.view_is c.requires.is_open c.requires.room _ _ _ c.append.ensures.items c.index_with-self-inside.ensures c.len-place.ensures,
+  omega (arith, c.append.ensures.capacity, c.self.invariant.1),
+)

@@ -1,0 +1,20 @@
+-- A book: a server between two operations, with the journal of those that it took. Our own words.
+use Rattle.std.specs.Prelude.{◌≡◌, ℕ, Bool, true, false, not, ◌&&◌, IsTrue, List, Option, Some, None}
+use Rattle.recency.specs.Rows.{find_row}
+use Rattle.server_core.specs.declared.op.Op.{Op}
+use Rattle.server_core.specs.declared.op.Op.TheVariants.{Publish, Arrive, Look, Sweep, Stop}
+use Rattle.server_core.specs.States.{ServerState}
+use Rattle.server_core.specs.Verdicts.{is_ignored}
+
+-- the server as it stands, and its journal
+pub record BookParts : Type 0 where
+  pub state : ServerState
+  pub journal : List Op
+
+-- an operation may want memory: what a control request is answered with, and a client that is new to the list
+abbrev pub MayWant : ServerState → Op → Type 0
+MayWant s (Look asked context) = Unit {0}
+MayWant s (Arrive ask moment) = (is_ignored s.published ask ≡ false) × (find_row s.rows ask.from.ip ≡ None)
+MayWant s (Publish rec) = ⊥
+MayWant s (Sweep moment) = ⊥
+MayWant s (Stop stop) = ⊥
