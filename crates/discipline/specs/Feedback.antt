@@ -1,4 +1,4 @@
--- The clock discipline loop (RFC 5905, sections 11.3 and 12; what is our own rule says so).
+-- The clock discipline loop (RFC 5905, sections 11.3 and 12; that the clock counts on from each change, and that a moment before the last one counts as no time, are our own rules).
 use Rattle.std.specs.Prelude.{ℕ, ℤ, pos, ◌≡◌, ◌≢◌, ◌-◌, ◌/◌, ◌^◌, ◌<◌, ◌≤◌, ◌⊎◌, Option, None, Some, unsigned_abs, if◌then◌else◌}
 use Rattle.fixed_time.specs.Time.{shifted}
 use Rattle.discipline.specs.declared.soft_clock.SoftClock.{SoftClock}
@@ -27,7 +27,7 @@ abbrev pub begun : SoftClock → Option ℤ → LoopState
 begun clock None = record { clock = record clock { freq = pos 0 }; state = Nset; residual = pos 0; since = clock.base }
 begun clock (Some freq) = record { clock = record clock { freq = freq }; state = Fset; residual = pos 0; since = clock.base }
 
--- the whole seconds from one moment to another
+-- the whole seconds from one moment to another, none where that is earlier
 abbrev pub seconds_between : ℕ → ℕ → ℕ
 seconds_between since now = (now - since) / 2 ^ 32
 
@@ -35,7 +35,7 @@ seconds_between since now = (now - since) / 2 ^ 32
 abbrev pub row_for : LoopState → ℤ → ℕ → Row
 row_for old offset now = row_of old.state (is_large offset) (is_early old.since now)
 
--- an update that is ignored: from SYNC the stepout threshold counts anew, in every other state on
+-- an update that is ignored: from SYNC the stepout threshold counts anew, in every other state it counts on (our own rule)
 abbrev pub since_after : LoopState → ℕ → ℕ
 since_after old now = elim old.state [ Sync ↦ now | _ ↦ old.since ]
 
