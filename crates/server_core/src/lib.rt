@@ -20,6 +20,8 @@ mod refusing;
 pub mod reply;
 pub mod step;
 mod stepping;
+#[cfg(test)]
+mod tests;
 pub mod verdict;
 
 pub use book::Book;

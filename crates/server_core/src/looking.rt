@@ -1,9 +1,13 @@
-ghost use Rattle.std.specs.Prelude.{◌≡◌, [], length};
+ghost use Rattle.std.specs.Prelude.{◌≡◌, ◌<◌, [], length};
+ghost use Rattle.recency.specs.Rows.{find_row};
 
 use crate::book::Book;
 use crate::journal::Journal;
 use fixed_time::Ntp64;
-use recency::Recency;
+use net_addr::Ip;
+use recency::{PlainList, Recency, Row, Steps};
+use std::marker::Brand;
+use std::sync::ledger::{Blank, Ledger};
 use sys_vars::Record;
 
 impl Book {
@@ -44,6 +48,13 @@ impl Book {
         self.list.len()
     }
 
+    /// The row of a client in the client list, None where it is not listed.
+    pub fn row(&self, ip: &Ip) -> Option<Row>
+        ensures { result ≡ find_row self.now.state.rows ip.now }
+    {
+        find_row::<Brand>(&self.list, ip, Blank::new(1))
+    }
+
     /// The last stamp that was drawn, 0 before the first.
     pub fn stamp(&self) -> u64
         ensures { result ≡ self.now.state.stamp }
@@ -64,4 +75,15 @@ impl Book {
     {
         self.origin
     }
+}
+
+/// The row of a client, where its look-up is not counted.
+fn find_row<L: Ledger>(list: &PlainList, ip: &Ip, blank: Blank) -> Option<Row>
+    requires name { blank.name ≡ L.name }
+    requires parts { blank.parts ≡ L.parts }
+    requires some { 0 < blank.parts }
+    ensures { result ≡ find_row (⟦<PlainList as Recency>⟧.rows list.now) ip.now }
+{
+    let mut steps = Steps::<L>::begin(blank);
+    list.find(ip, &mut steps)
 }
