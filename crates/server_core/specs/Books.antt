@@ -1,8 +1,11 @@
 -- A book: a server between two operations, with the journal of those that it took. Our own words.
 use Rattle.std.specs.Prelude.{◌≡◌, ℕ, Bool, true, false, not, ◌&&◌, IsTrue, List, Option, Some, None}
 use Rattle.recency.specs.Rows.{find_row}
+use Rattle.sys_vars.specs.Answers.{IsWithin}
 use Rattle.server_core.specs.declared.op.Op.{Op}
 use Rattle.server_core.specs.declared.op.Op.TheVariants.{Publish, Arrive, Look, Sweep, Stop}
+use Rattle.server_core.specs.declared.step.Reply.{Reply}
+use Rattle.server_core.specs.declared.step.Reply.TheVariants.{Published, Time, Looked, Swept, Stopped}
 use Rattle.server_core.specs.States.{ServerState}
 use Rattle.server_core.specs.Verdicts.{is_ignored}
 
@@ -18,3 +21,11 @@ MayWant s (Arrive ask moment) = (is_ignored s.published ask ≡ false) × (find_
 MayWant s (Publish rec) = ⊥
 MayWant s (Sweep moment) = ⊥
 MayWant s (Stop stop) = ⊥
+
+-- no datagram that answers a control request is longer than a control message can be
+abbrev pub IsShort : Reply → Type 0
+IsShort (Looked answer) = IsWithin answer
+IsShort Published = Unit {0}
+IsShort (Time verdict) = Unit {0}
+IsShort (Swept count) = Unit {0}
+IsShort Stopped = Unit {0}

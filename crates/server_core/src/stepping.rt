@@ -1,5 +1,5 @@
 ghost use Rattle.std.specs.Prelude.{◌≡◌, ◌<◌, ◌⊎◌, [], ◌∷◌, ◌++◌, None, length, IfOk, OnOk, OnErr, IfErr, MatchResult};
-ghost use Rattle.server_core.specs.Books.{MayWant};
+ghost use Rattle.server_core.specs.Books.{IsShort, MayWant};
 ghost use Rattle.server_core.specs.States.{refusal_of, reply_to, rows_after, stamp_after, state_after};
 
 use crate::arriving::arrive;
@@ -61,6 +61,7 @@ impl Book {
             × (refusal_of self.old.journal self.old.state.stamp op ≡ None))) }
         ensures next { OnOk result (self.new.state ≡ state_after self.old.state op) }
         ensures entered { OnOk result (self.new.journal ≡ self.old.journal ++ op ∷ []) }
+        ensures short { IfOk result IsShort }
         ensures kept { OnErr result (self.new ≡ self.old) }
     {
         if let Some(fault) = refusal(&self.journal, self.stamp, &op) {
@@ -83,6 +84,7 @@ impl Book {
         requires parts { blank.parts ≡ L.parts }
         requires some { 0 < blank.parts }
         ensures reply { IfOk result (λ reply. reply ≡ reply_to self.old.state op.now) }
+        ensures short { IfOk result IsShort }
         ensures rows { OnOk result (self.new.state.rows ≡ rows_after self.old.state op.now) }
         ensures stamp { OnOk result (self.new.state.stamp ≡ stamp_after self.old.state op.now) }
         ensures memory { OnErr result (MayWant self.old.state op.now) }
