@@ -1,5 +1,5 @@
 -- A book over a list of operations.
-use Rattle.std.proofs.Common.{◌≡◌, ◌⊎◌, ℕ, Option, Some, None, Result, Ok, Err, List, [], ◌∷◌, ◌++◌, OnOk, OnErr, length, ◌+◌, refl, sym, ap, subst, ◌∙◌, append_assoc, length-append, arith}
+use Rattle.std.proofs.Common.{◌≡◌, ◌⊎◌, ℕ, Some, None, Result, Ok, Err, List, [], ◌∷◌, ◌++◌, OnOk, OnErr, length, ◌+◌, refl, sym, ap, subst, ◌∙◌, append_assoc, length-append, arith}
 use Rattle.std.specs.Prelude.{MatchResult}
 use Rattle.std.proofs.lemmas.List.{append-nil}
 use Rattle.server_core.specs.declared.op.Op.{Op}
@@ -8,7 +8,7 @@ use Rattle.server_core.specs.declared.step.StepFault.{StepFault}
 use Rattle.server_core.specs.declared.step.StepFault.TheVariants.{NoMemory}
 use Rattle.server_core.specs.Books.{BookParts, MayWant}
 use Rattle.server_core.specs.Histories.{AreSteps, IsStep, accepted, state_after_all}
-use Rattle.server_core.specs.States.{ServerState, refusal_of, reply_to, state_after}
+use Rattle.server_core.specs.States.{refusal_of, reply_to, state_after}
 
 -- what one call of `step` does is a step
 pub IsStep-from : (old new : BookParts) (op : Op) (r : Result Reply StepFault)

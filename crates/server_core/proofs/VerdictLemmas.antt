@@ -1,5 +1,5 @@
 -- A client list that an arrival has touched.
-use Rattle.std.proofs.Common.{◌≡◌, ℕ, List}
+use Rattle.std.proofs.Common.{ℕ, List}
 use Rattle.recency.specs.declared.limits.Limits.{Limits}
 use Rattle.recency.specs.declared.row.Row.{Row}
 use Rattle.recency.specs.Rows.{AreBefore, AreUpTo}

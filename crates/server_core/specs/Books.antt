@@ -1,5 +1,5 @@
 -- A book: a server between two operations, with the journal of those that it took. Our own words.
-use Rattle.std.specs.Prelude.{◌≡◌, ℕ, Bool, true, false, not, ◌&&◌, IsTrue, List, Option, Some, None}
+use Rattle.std.specs.Prelude.{◌≡◌, false, List, None}
 use Rattle.recency.specs.Rows.{find_row}
 use Rattle.sys_vars.specs.Answers.{IsWithin}
 use Rattle.server_core.specs.declared.op.Op.{Op}

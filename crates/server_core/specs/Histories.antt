@@ -1,5 +1,5 @@
 -- A server over a list of operations: our own words.
-use Rattle.std.specs.Prelude.{◌≡◌, ◌⊎◌, Option, Some, None, Result, Ok, Err, List, [], ◌∷◌, ◌++◌}
+use Rattle.std.specs.Prelude.{◌≡◌, ◌⊎◌, Some, None, Result, Ok, Err, List, [], ◌∷◌, ◌++◌}
 use Rattle.server_core.specs.declared.op.Op.{Op}
 use Rattle.server_core.specs.declared.step.Reply.{Reply}
 use Rattle.server_core.specs.declared.step.StepFault.{StepFault}

@@ -11,13 +11,12 @@ use Rattle.sys_vars.specs.declared.published.Record.{Record}
 use Rattle.server_core.specs.declared.op.Op.{Op}
 use Rattle.server_core.specs.declared.op.Op.TheVariants.{Publish, Arrive, Look, Sweep, Stop}
 use Rattle.server_core.specs.declared.op.Stop.{Stop as Stopping}
-use Rattle.server_core.specs.declared.op.Why.{Why}
 use Rattle.server_core.specs.declared.op.Why.TheVariants.{Entries, Publications}
 use Rattle.server_core.specs.declared.op.TheConstants.{MAX_ENTRIES, MAX_PUBLICATIONS}
 use Rattle.server_core.specs.declared.step.Reply.{Reply}
 use Rattle.server_core.specs.declared.step.Reply.TheVariants.{Published, Time, Looked, Swept, Stopped}
 use Rattle.server_core.specs.declared.step.StepFault.{StepFault}
-use Rattle.server_core.specs.declared.step.StepFault.TheVariants.{Ended, Full, ClockEnd, NoMemory}
+use Rattle.server_core.specs.declared.step.StepFault.TheVariants.{Ended, Full, ClockEnd}
 use Rattle.server_core.specs.Verdicts.{arrival_rows, arrival_stamp, arrival_verdict}
 
 -- a server between two operations: what is published, the client list (oldest first) with its limits, the last stamp,

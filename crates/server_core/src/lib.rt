@@ -1,8 +1,11 @@
-//! The sequential server: what a datagram asks for, and the octets of the answer.
+//! The sequential server: what a datagram asks for, what becomes of it, and the octets of the
+//! answer. One object, the book, takes one operation after another and keeps them in a journal.
 //!
-//! Layer 5. Stands on: `sys_vars`, `mode6_frame`, `ntp_packet`, `ntp_trailer`, `mac_keys`, `discipline`, `edge_traits`, `net_addr`, `fixed_time`.
-//! Promises: every datagram has exactly one class, and a request for the time exactly one reply,
-//! which has a MAC where the request has a good one, and a crypto-NAK where it has a bad one.
+//! Layer 5. Stands on: `recency`, `access_rules`, `sys_vars`, `mode6_frame`, `ntp_packet`,
+//! `ntp_trailer`, `mac_keys`, `discipline`, `edge_traits`, `net_addr`, `fixed_time`.
+//! Promises: every datagram has exactly one class; whatever operations the book takes, each reply
+//! and the state after it are those of one definition; a reply has a MAC where the request has a
+//! good one, and a crypto-NAK where it has a bad one.
 #![tactic(auto)]
 
 mod arriving;

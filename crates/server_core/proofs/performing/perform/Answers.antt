@@ -1,7 +1,5 @@
-use Rattle.std.proofs.Common.{◌≡◌, List, [], ◌∷◌, ◌++◌, length, arith, refl, sym, ap, subst, ◌∙◌, append_assoc}
-use Rattle.std.proofs.lemmas.List.{append-nil}
+use Rattle.std.proofs.Common.{List, [], ◌∷◌, ◌++◌, length, arith, refl, sym, ap, ◌∙◌, append_assoc}
 use Rattle.server_core.specs.declared.op.Op.{Op}
-use Rattle.server_core.specs.Histories.{AreSteps}
 use Rattle.server_core.proofs.HistoryLemmas.{AreSteps-append, AreSteps-ended, IsStep-from, journal-AreSteps, length-one, state-AreSteps}
 use Rattle.server_core.proofs.performing.perform.Goals as goal
 
