@@ -5,6 +5,7 @@ use Rattle.std.specs.Option.{option_map, unwrap_or}
 use Rattle.net_addr.specs.Addresses.{bits_of}
 use Rattle.net_addr.specs.Prefixes.{has_ip}
 use Rattle.net_addr.specs.declared.addr.Ip.{Ip}
+use Rattle.net_addr.specs.declared.addr.Ip.TheVariants.{V4, V6}
 use Rattle.net_addr.specs.declared.prefix.Prefix.{Prefix}
 use Rattle.access_rules.specs.declared.rules.Rule.{Rule}
 use Rattle.access_rules.specs.declared.rules.TheConstants.{MAX_RULES}
@@ -33,6 +34,18 @@ pub record IsPlain (rules : List Rule) : Type 0 where
   pub table : IsRules rules
   pub two : length rules ≡ 2
   pub no_flags : All (λ rule. rule.flags ≡ 0) rules
+
+-- the rule of this prefix of length 0, without flags
+pub record IsWholeOf (ip : Ip) (rule : Rule) : Type 0 where
+  pub same_ip : rule.prefix.ip ≡ ip
+  pub all : rule.prefix.length ≡ 0
+  pub no_flags : rule.flags ≡ 0
+
+-- the rules of IPv4's whole and of IPv6's whole, each with the address whose octets are all 0
+abbrev pub AreWholes : List Rule → Type 0
+AreWholes rules = (v4 : Rule) × (v6 : Rule) × (rules ≡ v4 ∷ v6 ∷ [])
+    × IsWholeOf (V4 (0 ∷ 0 ∷ 0 ∷ 0 ∷ [])) v4
+    × IsWholeOf (V6 (0 ∷ 0 ∷ 0 ∷ 0 ∷ 0 ∷ 0 ∷ 0 ∷ 0 ∷ 0 ∷ 0 ∷ 0 ∷ 0 ∷ 0 ∷ 0 ∷ 0 ∷ 0 ∷ [])) v6
 
 -- the flags of an address: those of the last rule whose prefix has it
 abbrev pub flags_of : List Rule → Ip → ℕ

@@ -5,7 +5,7 @@ ghost use Rattle.net_addr.specs.Prefixes.{has_ip};
 ghost use Rattle.net_addr.specs.declared.prefix.Prefix.{Prefix};
 ghost use Rattle.access_rules.specs.Flags.{joined};
 ghost use Rattle.access_rules.specs.Order.{same_prefix};
-ghost use Rattle.access_rules.specs.Rules.{IsPlain, IsRules, flags_at, flags_of, is_default, rules_with, rules_without};
+ghost use Rattle.access_rules.specs.Rules.{AreWholes, IsPlain, IsRules, flags_at, flags_of, is_default, rules_with, rules_without};
 ghost use Rattle.access_rules.specs.Places.{family_end, is_placed, place_of};
 ghost use Rattle.access_rules.specs.declared.rules.RuleFault.TheVariants.{Full, NotThere, NoMemory};
 ghost use Rattle.access_rules.specs.declared.rules.TheConstants.{MAX_RULES};
@@ -56,7 +56,8 @@ impl Model for Rules {
 impl Rules {
     /// The two defaults, without flags.
     pub fn plain(alloc: Global) -> Result<Rules, AllocError>
-        ensures { IfOk result IsPlain }
+        ensures plain { IfOk result IsPlain }
+        ensures wholes { IfOk result AreWholes }
     {
         let mut rules = Vec::new(alloc);
         rules.push(default_of(Ip::V4([0; 4])))?;

@@ -24,5 +24,15 @@ is_plain c =
 pub invariant_of-result : goal.invariant_of-result
 invariant_of-result c = (is_plain c).table
 
-pub returns : goal.returns
-returns c = is_plain c
+pub returns-clause-plain : goal.returns-clause-plain
+returns-clause-plain c = is_plain c
+
+pub returns-clause-wholes : goal.returns-clause-wholes
+returns-clause-wholes c = (
+  c.default_of.result,
+  c.default_of-2.result,
+  c.in_ok-push-2.ensures.items ∙ ap (λ (rules : List Rule). rules ++ c.default_of-2.result ∷ [])
+      (c.in_ok-push.ensures.items ∙ ap (λ (rules : List Rule). rules ++ c.default_of.result ∷ []) c.new-rules.ensures.items),
+  record { same_ip = c.default_of.ensures.ip; all = c.default_of.ensures.all; no_flags = c.default_of.ensures.no_flags },
+  record { same_ip = c.default_of-2.ensures.ip; all = c.default_of-2.ensures.all; no_flags = c.default_of-2.ensures.no_flags },
+)

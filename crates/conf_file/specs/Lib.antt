@@ -1,0 +1,14 @@
+pub mod ConfLines
+pub mod ConfTexts
+pub mod Drafts
+pub mod Kinds
+pub mod ListOptions
+pub mod Numbers
+pub mod OptionLines
+pub mod Options
+pub mod RateOptions
+pub mod RestrictLines
+pub mod RestrictOptions
+pub mod ServerOptions
+pub mod Servers
+pub mod ShortLines
