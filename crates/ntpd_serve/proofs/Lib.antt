@@ -1,2 +1,3 @@
 pub mod OnceLemmas
 pub mod CommandLemmas
+pub mod DueLemmas

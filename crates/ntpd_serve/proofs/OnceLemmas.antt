@@ -1,7 +1,6 @@
 -- How silences add up at a port.
-use Rattle.std.proofs.Common.{◌≡◌, ℕ, ◌+◌, Option, Some, None, List, [], ◌∷◌, ◌++◌, append_assoc, replicate, zero, suc, Bool, inl, inr, refl, sym, ap, ◌∙◌, arith}
+use Rattle.std.proofs.Common.{◌≡◌, ℕ, ◌+◌, Option, Some, None, List, [], ◌∷◌, ◌++◌, append_assoc, replicate, zero, suc, Bool, inl, inr, refl, sym, ap, subst, ◌∙◌, arith}
 use Rattle.std.proofs.lemmas.List.{append-nil, replicate_more}
-use Rattle.fixed_time.specs.declared.time.Ntp64.{Ntp64}
 use Rattle.mac_keys.specs.declared.keys.Key.{Key}
 use Rattle.net_addr.specs.declared.addr.Addr.{Addr}
 use Rattle.edge_traits.specs.Told.{gained, Grows, Rose}
@@ -9,11 +8,16 @@ use Rattle.edge_traits.proofs.ToldLemmas.{gained-gained}
 use Rattle.edge_traits.specs.declared.port.Event.{Event}
 use Rattle.edge_traits.specs.declared.port.Event.TheVariants.{Silence, Took}
 use Rattle.edge_traits.specs.declared.status.Status.{Status}
+use Rattle.server_core.specs.States.{ServerState}
 use Rattle.ntpd_serve.specs.Ending.{Reports}
 use Rattle.ntpd_serve.specs.declared.once.TheConstants.{PATIENCE}
 use Rattle.ntpd_serve.specs.declared.ending.Ending.{Ending}
-use Rattle.ntpd_serve.specs.declared.ending.Ending.TheVariants.{Answered, Silent, Words, HostFailed, PortFailed, Quiet, Closed, NoMemory}
-use Rattle.ntpd_serve.specs.Once.{silences, IsAnswer, Follows, GivesOne, Happens, Causes, HasCome, IsServed}
+use Rattle.ntpd_serve.specs.declared.ending.Ending.TheVariants.{Answered, Silent, Ignored, Limited, Words, HostFailed, PortFailed, Quiet, Closed, NoMemory}
+use Rattle.ntpd_serve.specs.declared.once.Common.{Common}
+use Rattle.ntpd_serve.specs.declared.due.Due.{Due}
+use Rattle.ntpd_serve.specs.declared.due.Due.TheVariants.{Unheard, Ignored as IgnoredDue, Limited as LimitedDue}
+use Rattle.ntpd_serve.specs.Due.{IsDue, IsGram}
+use Rattle.ntpd_serve.specs.Once.{silences, context_at, IsAnswer, IsUnanswered, Follows, GivesDue, GivesOne, Happens, Causes, HasCome, IsServed}
 
 -- no silence yet
 pub gained-no_silence : (told : Option (List Event)) → told ≡ gained told (silences 0)
@@ -48,16 +52,71 @@ Grows-Grows None (Some between) (Some new) first second one two = absurd one
 Grows-Grows (Some old) (Some between) (Some new) first second one two =
     two ∙ ap (λ (told : List ℕ). told ++ second) one ∙ append_assoc old first second
 
--- what one give of the answer makes of a request
-pub Follows-GivesOne : (keys : List Key) (origin : Ntp64) (ending : Ending) (from : Addr) (octets answer : List ℕ) (events : List Event) (readings : List ℕ) → IsAnswer keys origin from octets readings answer → GivesOne ending from answer events → Follows keys origin ending from octets events readings
-Follows-GivesOne keys origin (Answered count) from octets answer events readings is gives = (answer, is, gives.0, gives.1)
-Follows-GivesOne keys origin PortFailed from octets answer events readings is gives = (answer, is, gives)
-Follows-GivesOne keys origin NoMemory from octets answer events readings is gives = gives
-Follows-GivesOne keys origin (Silent why) from octets answer events readings is gives = absurd gives
-Follows-GivesOne keys origin Words from octets answer events readings is gives = absurd gives
-Follows-GivesOne keys origin HostFailed from octets answer events readings is gives = absurd gives
-Follows-GivesOne keys origin Quiet from octets answer events readings is gives = absurd gives
-Follows-GivesOne keys origin Closed from octets answer events readings is gives = absurd gives
+-- nothing gained
+pub gained-nothing : (told : Option (List Event)) → told ≡ gained told []
+gained-nothing None = refl
+gained-nothing (Some told) = sym (ap Some (append-nil told))
+
+-- no reading
+pub Grows-nothing : (told : Option (List ℕ)) → Grows told told []
+Grows-nothing None = tt
+Grows-nothing (Some told) = sym (append-nil told)
+
+-- without memory for a server nothing happens
+pub Happens-no_memory : (common : Common) → Happens common NoMemory [] []
+unfolding silences
+Happens-no_memory common = inr ((0, omega arith, refl), refl)
+
+-- one give of the datagram that is due, once the clock was read
+pub GivesDue-GivesOne : (keys : List Key) (came sent : ℕ) (due : Due) (ending : Ending) (to : Addr) (gram : List ℕ) (events : List Event) → IsGram keys came sent due gram → GivesOne ending to gram events → GivesDue keys came due ending to events (sent ∷ [])
+GivesDue-GivesOne keys came sent due (Answered count) to gram events is gives = (gram, sent, is, gives.0, gives.1, refl)
+GivesDue-GivesOne keys came sent due PortFailed to gram events is gives = (gram, sent, is, gives, refl)
+GivesDue-GivesOne keys came sent due NoMemory to gram events is gives = gives
+GivesDue-GivesOne keys came sent due (Silent why) to gram events is gives = absurd gives
+GivesDue-GivesOne keys came sent due Ignored to gram events is gives = absurd gives
+GivesDue-GivesOne keys came sent due Limited to gram events is gives = absurd gives
+GivesDue-GivesOne keys came sent due Words to gram events is gives = absurd gives
+GivesDue-GivesOne keys came sent due HostFailed to gram events is gives = absurd gives
+GivesDue-GivesOne keys came sent due Quiet to gram events is gives = absurd gives
+GivesDue-GivesOne keys came sent due Closed to gram events is gives = absurd gives
+
+-- a datagram that is due nothing
+IsUnanswered-due : (common : Common) (s : ServerState) (from : Addr) (octets : List ℕ) (came : ℕ) (due none : Due) (events : List Event) (readings : List ℕ) → IsDue s common.keys (context_at common came) from octets due → due ≡ none → events ≡ [] → readings ≡ [] → IsUnanswered common s from octets none events (came ∷ readings)
+IsUnanswered-due common s from octets came due none events readings is same nothing unread = record {
+  came = came;
+  read = ap (λ (more : List ℕ). came ∷ more) unread;
+  is_due = subst (IsDue s common.keys (context_at common came) from octets) same is;
+  none = nothing;
+}
+
+-- a datagram that is answered
+IsAnswer-due : (common : Common) (s : ServerState) (from : Addr) (octets : List ℕ) (came sent : ℕ) (due : Due) (gram readings : List ℕ) → IsDue s common.keys (context_at common came) from octets due → IsGram common.keys came sent due gram → readings ≡ sent ∷ [] → IsAnswer common s from octets (came ∷ readings) gram
+IsAnswer-due common s from octets came sent due gram readings is gives read = record {
+  due = due;
+  came = came;
+  sent = sent;
+  read = ap (λ (more : List ℕ). came ∷ more) read;
+  is_due = is;
+  is = gives;
+}
+
+-- what is done about what a datagram is due is what follows it
+pub Follows-GivesDue : (common : Common) (s : ServerState) (from : Addr) (octets : List ℕ) (came : ℕ) (due : Due) (ending : Ending) (events : List Event) (readings : List ℕ) → IsDue s common.keys (context_at common came) from octets due → GivesDue common.keys came due ending from events readings → Follows common s ending from octets events (came ∷ readings)
+Follows-GivesDue common s from octets came due (Answered count) events readings is (gram, sent, gives, given, one, read) =
+    (gram, IsAnswer-due common s from octets came sent due gram readings is gives read, given, one)
+Follows-GivesDue common s from octets came due PortFailed events readings is (gram, sent, gives, none, read) =
+    (gram, IsAnswer-due common s from octets came sent due gram readings is gives read, none)
+Follows-GivesDue common s from octets came due NoMemory events readings is gives = gives
+Follows-GivesDue common s from octets came due (Silent why) events readings is (same, none, unread) =
+    IsUnanswered-due common s from octets came due (Unheard why) events readings is same none unread
+Follows-GivesDue common s from octets came due Ignored events readings is (same, none, unread) =
+    IsUnanswered-due common s from octets came due IgnoredDue events readings is same none unread
+Follows-GivesDue common s from octets came due Limited events readings is (same, none, unread) =
+    IsUnanswered-due common s from octets came due LimitedDue events readings is same none unread
+Follows-GivesDue common s from octets came due Words events readings is gives = absurd gives
+Follows-GivesDue common s from octets came due HostFailed events readings is gives = absurd gives
+Follows-GivesDue common s from octets came due Quiet events readings is gives = absurd gives
+Follows-GivesDue common s from octets came due Closed events readings is gives = absurd gives
 
 -- among silences alone there is no datagram
 no_datagram : (n : ℕ) (before after : List Event) (from : Addr) (octets : List ℕ) → replicate n Silence ≡ before ++ Took from octets ∷ after → ⊥
@@ -73,18 +132,20 @@ unfolding silences
 silences_only n events only (before, from, octets, after, is) = no_datagram n before after from octets (sym only ∙ is)
 
 -- where a datagram came, and neither port nor sink failed, it was served
-pub IsServed-HasCome : (keys : List Key) (origin : Ntp64) (ending : Ending) (events : List Event) (readings : List ℕ) (status : Status) (faults faults' quiets quiets' : ℕ) (is_closed : Bool) (sink sink' : ℕ) (old new : Option (List ℕ)) → Happens keys origin ending events readings → Causes ending faults faults' quiets quiets' is_closed → Reports ending status old new → (status.0 ≡ 8 → Rose 1 sink sink') → HasCome events → ¬ Rose 1 faults faults' → ¬ Rose 1 sink sink' → IsServed status
-IsServed-HasCome keys origin ending events readings status faults faults' quiets quiets' is_closed sink sink' old new happens causes (inr (inl eight, front)) failed came port_well sink_well = absurd (sink_well (failed eight))
-IsServed-HasCome keys origin ending events readings status faults faults' quiets quiets' is_closed sink sink' old new happens causes (inr (inr nine, front)) failed came port_well sink_well = inr nine
-IsServed-HasCome keys origin (Answered count) events readings status faults faults' quiets quiets' is_closed sink sink' old new happens causes (inl (is, whole)) failed came port_well sink_well = inl is
-IsServed-HasCome keys origin (Silent why) events readings status faults faults' quiets quiets' is_closed sink sink' old new happens causes (inl (is, whole)) failed came port_well sink_well = inl is
-IsServed-HasCome keys origin NoMemory events readings status faults faults' quiets quiets' is_closed sink sink' old new happens causes (inl (is, whole)) failed came port_well sink_well = inr is
-IsServed-HasCome keys origin PortFailed events readings status faults faults' quiets quiets' is_closed sink sink' old new happens causes (inl (is, whole)) failed came port_well sink_well = absurd (port_well (causes.failed refl))
-IsServed-HasCome keys origin Quiet events readings status faults faults' quiets quiets' is_closed sink sink' old new (inl comes) causes (inl (is, whole)) failed came port_well sink_well = absurd comes.follows
-IsServed-HasCome keys origin Quiet events readings status faults faults' quiets quiets' is_closed sink sink' old new (inr (only, none)) causes (inl (is, whole)) failed came port_well sink_well = absurd (silences_only PATIENCE events only came)
-IsServed-HasCome keys origin Closed events readings status faults faults' quiets quiets' is_closed sink sink' old new (inl comes) causes (inl (is, whole)) failed came port_well sink_well = absurd comes.follows
-IsServed-HasCome keys origin Closed events readings status faults faults' quiets quiets' is_closed sink sink' old new (inr (only, none)) causes (inl (is, whole)) failed came port_well sink_well = absurd (silences_only only.0 events only.2 came)
-IsServed-HasCome keys origin Words events readings status faults faults' quiets quiets' is_closed sink sink' old new (inl comes) causes (inl (is, whole)) failed came port_well sink_well = absurd comes.follows
-IsServed-HasCome keys origin Words events readings status faults faults' quiets quiets' is_closed sink sink' old new (inr (only, none)) causes (inl (is, whole)) failed came port_well sink_well = absurd only
-IsServed-HasCome keys origin HostFailed events readings status faults faults' quiets quiets' is_closed sink sink' old new (inl comes) causes (inl (is, whole)) failed came port_well sink_well = absurd comes.follows
-IsServed-HasCome keys origin HostFailed events readings status faults faults' quiets quiets' is_closed sink sink' old new (inr (only, none)) causes (inl (is, whole)) failed came port_well sink_well = absurd only
+pub IsServed-HasCome : (common : Common) (ending : Ending) (events : List Event) (readings : List ℕ) (status : Status) (faults faults' quiets quiets' : ℕ) (is_closed : Bool) (sink sink' : ℕ) (old new : Option (List ℕ)) → Happens common ending events readings → Causes ending faults faults' quiets quiets' is_closed → Reports ending status old new → (status.0 ≡ 8 → Rose 1 sink sink') → HasCome events → ¬ Rose 1 faults faults' → ¬ Rose 1 sink sink' → IsServed status
+IsServed-HasCome common ending events readings status faults faults' quiets quiets' is_closed sink sink' old new happens causes (inr (inl eight, front)) failed came port_well sink_well = absurd (sink_well (failed eight))
+IsServed-HasCome common ending events readings status faults faults' quiets quiets' is_closed sink sink' old new happens causes (inr (inr nine, front)) failed came port_well sink_well = inr nine
+IsServed-HasCome common (Answered count) events readings status faults faults' quiets quiets' is_closed sink sink' old new happens causes (inl (is, whole)) failed came port_well sink_well = inl is
+IsServed-HasCome common (Silent why) events readings status faults faults' quiets quiets' is_closed sink sink' old new happens causes (inl (is, whole)) failed came port_well sink_well = inl is
+IsServed-HasCome common Ignored events readings status faults faults' quiets quiets' is_closed sink sink' old new happens causes (inl (is, whole)) failed came port_well sink_well = inl is
+IsServed-HasCome common Limited events readings status faults faults' quiets quiets' is_closed sink sink' old new happens causes (inl (is, whole)) failed came port_well sink_well = inl is
+IsServed-HasCome common NoMemory events readings status faults faults' quiets quiets' is_closed sink sink' old new happens causes (inl (is, whole)) failed came port_well sink_well = inr is
+IsServed-HasCome common PortFailed events readings status faults faults' quiets quiets' is_closed sink sink' old new happens causes (inl (is, whole)) failed came port_well sink_well = absurd (port_well (causes.failed refl))
+IsServed-HasCome common Quiet events readings status faults faults' quiets quiets' is_closed sink sink' old new (inl comes) causes (inl (is, whole)) failed came port_well sink_well = absurd comes.follows
+IsServed-HasCome common Quiet events readings status faults faults' quiets quiets' is_closed sink sink' old new (inr (only, none)) causes (inl (is, whole)) failed came port_well sink_well = absurd (silences_only PATIENCE events only came)
+IsServed-HasCome common Closed events readings status faults faults' quiets quiets' is_closed sink sink' old new (inl comes) causes (inl (is, whole)) failed came port_well sink_well = absurd comes.follows
+IsServed-HasCome common Closed events readings status faults faults' quiets quiets' is_closed sink sink' old new (inr (only, none)) causes (inl (is, whole)) failed came port_well sink_well = absurd (silences_only only.0 events only.2 came)
+IsServed-HasCome common Words events readings status faults faults' quiets quiets' is_closed sink sink' old new (inl comes) causes (inl (is, whole)) failed came port_well sink_well = absurd comes.follows
+IsServed-HasCome common Words events readings status faults faults' quiets quiets' is_closed sink sink' old new (inr (only, none)) causes (inl (is, whole)) failed came port_well sink_well = absurd only
+IsServed-HasCome common HostFailed events readings status faults faults' quiets quiets' is_closed sink sink' old new (inl comes) causes (inl (is, whole)) failed came port_well sink_well = absurd comes.follows
+IsServed-HasCome common HostFailed events readings status faults faults' quiets quiets' is_closed sink sink' old new (inr (only, none)) causes (inl (is, whole)) failed came port_well sink_well = absurd only

@@ -1,13 +1,19 @@
 -- The command line of `ntpd`, and what the whole run does by it: our own rule.
 use Rattle.std.specs.Prelude.{◌≡◌, ◌⊎◌, ℕ, List, [], ◌∷◌, codes}
-use Rattle.net_addr.specs.Spelling.{IsAddr, text_of}
+use Rattle.fixed_time.specs.declared.time.Ntp64.{Ntp64}
+use Rattle.edge_traits.specs.declared.salt.Salt.{Salt}
+use Rattle.net_addr.specs.Spelling.{IsAddr, Spells}
 use Rattle.net_addr.specs.declared.addr.Addr.{Addr}
+use Rattle.ntpd_serve.specs.declared.once.Common.{Common}
 use Rattle.ntpd_serve.specs.declared.ending.Ending.{Ending}
 use Rattle.ntpd_serve.specs.declared.ending.Ending.TheVariants.{Words, HostFailed, NoMemory}
 
--- the words are `once` and the text of this address, with its port
-abbrev pub AsksOnce : List (List ℕ) → Addr → Type 0
-AsksOnce words at = IsAddr at × (words ≡ codes "once" ∷ text_of at ∷ [])
+-- the words are `once` and a text that spells this address, with its port
+pub record AsksOnce (words : List (List ℕ)) (at : Addr) : Type 0 where
+  pub fits : IsAddr at
+  pub text : List ℕ
+  pub spells : Spells text at
+  pub are : words ≡ codes "once" ∷ text ∷ []
 
 -- the words are no command
 abbrev pub IsNoCommand : List (List ℕ) → Type 0
@@ -21,3 +27,7 @@ IsHostEnding ending = (ending ≡ HostFailed) ⊎ (ending ≡ NoMemory)
 abbrev pub EndsBefore : Ending → List (List ℕ) → Type 0
 EndsBefore ending words =
     ((ending ≡ Words) × IsNoCommand words) ⊎ (((at : Addr) × AsksOnce words at) × IsHostEnding ending)
+
+-- what a run of `once` knows: no keys, and the host's secret and origin
+abbrev pub common_of : Salt → Ntp64 → Common
+common_of salt origin = record { keys = []; salt = salt; origin = origin }

@@ -5,7 +5,7 @@ use Rattle.edge_traits.specs.declared.status.Status.{Status}
 use Rattle.server_core.specs.declared.class.Unheard.{Unheard}
 use Rattle.server_core.specs.declared.class.Unheard.TheVariants.{Packet, Trailer, Frame, Unserved, NotRequest}
 use Rattle.ntpd_serve.specs.declared.ending.Ending.{Ending}
-use Rattle.ntpd_serve.specs.declared.ending.Ending.TheVariants.{Answered, Silent, Words, HostFailed, PortFailed, Quiet, Closed, NoMemory}
+use Rattle.ntpd_serve.specs.declared.ending.Ending.TheVariants.{Answered, Silent, Ignored, Limited, Words, HostFailed, PortFailed, Quiet, Closed, NoMemory}
 
 -- why a datagram got no answer
 abbrev pub unheard_text : Unheard → List ℕ
@@ -19,6 +19,8 @@ unheard_text NotRequest = codes "not-request"
 abbrev pub ending_text : Ending → List ℕ
 ending_text (Answered count) = codes "answered " ++ decimal count
 ending_text (Silent why) = codes "silent " ++ unheard_text why
+ending_text Ignored = codes "silent ignored"
+ending_text Limited = codes "silent limited"
 ending_text Words = codes "ntpd: words"
 ending_text HostFailed = codes "ntpd: host"
 ending_text PortFailed = codes "ntpd: port"
@@ -34,6 +36,8 @@ line_of ending = ending_text ending ++ 10 ∷ []
 abbrev pub status_of : Ending → ℕ
 status_of (Answered count) = 0
 status_of (Silent why) = 0
+status_of Ignored = 0
+status_of Limited = 0
 status_of Words = 1
 status_of HostFailed = 3
 status_of PortFailed = 4

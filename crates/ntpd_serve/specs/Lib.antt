@@ -1,4 +1,5 @@
 pub mod Ending
+pub mod Due
 pub mod Once
 pub mod Command
 pub mod Usage

@@ -4,7 +4,7 @@ ghost use Rattle.edge_traits.specs.Told.{gained, Grows, Rose, TellsJust};
 ghost use Rattle.edge_traits.specs.declared.port.Event.{Event};
 ghost use Rattle.ntpd_serve.specs.Ending.{Reports, status_of};
 ghost use Rattle.ntpd_serve.specs.Once.{Happens, HasCome, IsServed};
-ghost use Rattle.ntpd_serve.specs.Command.{AsksOnce, IsNoCommand, EndsBefore, IsHostEnding};
+ghost use Rattle.ntpd_serve.specs.Command.{AsksOnce, IsNoCommand, EndsBefore, IsHostEnding, common_of};
 ghost use Rattle.ntpd_serve.specs.declared.ending.Ending.{Ending};
 
 use crate::ending::Ending;
@@ -50,7 +50,7 @@ pub fn ntpd<R: Threads + Wait, H: Host, S: Sink, G: Gate>(
         × AsksOnce (map string_bytes words.now) at
         × (H.binds host.new ≡ gained (H.binds host.old) (at ∷ []))
         × (H.P.address single.port ≡ at)
-        × Happens [] (H.origin host.old) ending events readings
+        × Happens (common_of (H.salt host.old) (H.origin host.old)) ending events readings
         × TellsJust (H.P.trace single.port) events
         × TellsJust (H.C.readings single.clock) readings
         × Reports ending result.status (S.contents out.old) (S.contents out.new)
@@ -115,7 +115,7 @@ fn serve<P: Port, C: Clock, S: Sink>(
     requires most { 1024 ≤ P.most single.port }
     ensures served { IsSomeAnd result.single (λ left. (ending : Ending)
         × (events : List Event) × (readings : List ℕ)
-        × Happens common.now.keys common.now.origin ending events readings
+        × Happens common.now ending events readings
         × (P.trace left.port ≡ gained (P.trace single.port) events)
         × Grows (C.readings single.clock) (C.readings left.clock) readings
         × Reports ending result.status (S.contents out.old) (S.contents out.new)
@@ -160,7 +160,7 @@ fn once<H: Host, S: Sink>(alloc: Global, at: &Addr, host: &mut H, out: &mut S) -
         × (events : List Event) × (readings : List ℕ)
         × (H.binds host.new ≡ gained (H.binds host.old) (at.now ∷ []))
         × (H.P.address single.port ≡ at.now)
-        × Happens [] (H.origin host.old) ending events readings
+        × Happens (common_of (H.salt host.old) (H.origin host.old)) ending events readings
         × TellsJust (H.P.trace single.port) events
         × TellsJust (H.C.readings single.clock) readings
         × Reports ending result.status (S.contents out.old) (S.contents out.new)

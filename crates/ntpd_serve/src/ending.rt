@@ -9,8 +9,12 @@ use server_core::Unheard;
 pub enum Ending {
     /// It gave an answer of so many datagrams.
     Answered(u8),
-    /// The datagram gets no answer.
+    /// The datagram gets no answer: it is not heard.
     Silent(Unheard),
+    /// The datagram gets no answer: the restrict flags of its sender refuse it.
+    Ignored,
+    /// The datagram gets no answer: its sender is over its rate.
+    Limited,
     /// The words are no command.
     Words,
     /// The host failed.
@@ -30,7 +34,7 @@ pub fn status_of(ending: &Ending) -> Status
     ensures { result.0 ≡ status_of ending.now }
 {
     Status(match ending {
-        Ending::Answered(_) | Ending::Silent(_) => 0,
+        Ending::Answered(_) | Ending::Silent(_) | Ending::Ignored | Ending::Limited => 0,
         Ending::Words => 1,
         Ending::HostFailed => 3,
         Ending::PortFailed => 4,

@@ -1,23 +1,26 @@
-ghost use Rattle.std.specs.Prelude.{◌≡◌, ◌≤◌, ◌<◌, ◌+◌, ℕ, List, [], ◌∷◌, ◌++◌, length, IsTrue, IfOk, IfErr, MatchResult};
+ghost use Rattle.std.specs.Prelude.{◌≡◌, ◌≤◌, ◌<◌, ℕ, List, [], ◌∷◌, ◌++◌, IsTrue, IfOk, IfErr};
 ghost use Rattle.edge_traits.specs.Told.{gained, Grows, Rose};
 ghost use Rattle.edge_traits.specs.declared.port.Event.{Event};
 ghost use Rattle.edge_traits.specs.declared.port.Event.TheVariants.{Took};
-ghost use Rattle.sys_vars.specs.Answers.{gram_of};
-ghost use Rattle.sys_vars.specs.Opening.{opening_record};
-ghost use Rattle.server_core.specs.Reply.{HasKey};
+ghost use Rattle.server_core.specs.Class.{IsClass};
+ghost use Rattle.server_core.specs.declared.class.Class.{Class};
+ghost use Rattle.server_core.specs.declared.class.Unheard.{Unheard};
+ghost use Rattle.ntpd_serve.specs.Due.{IsOpen};
 ghost use Rattle.ntpd_serve.specs.Ending.{Reports};
-ghost use Rattle.ntpd_serve.specs.Once.{silences, reply_octets, Follows, Happens, OnlySilences, GivesOne, Causes, HasCome, IsServed};
+ghost use Rattle.ntpd_serve.specs.Once.{silences, context_at, Follows, Happens, OnlySilences, Causes, HasCome, IsOpeningState, IsServed};
 
+use crate::due::take_to;
 use crate::ending::Ending;
+use crate::giving::give_due;
 use crate::report::report;
-use edge_traits::{Clock, Grams, Octets, Port, PortFault, Salt, Sink, Status, Taken};
+use edge_traits::{Clock, Octets, Port, PortFault, Salt, Sink, Status, Taken};
 use fixed_time::Ntp64;
 use mac_keys::KeyTable;
-use mode6_frame::{HEAD_LEN, MAX_BODY};
 use net_addr::Addr;
-use server_core::{Ask, Basis, Class, classify, time_reply};
+use recency::Limits;
+use server_core::Book;
 use std::alloc::{AllocError, Global};
-use sys_vars::{Answer, Asked, Context, Record};
+use sys_vars::{Context, Record};
 
 /// After so many takes that found nothing a call gives up.
 pub const PATIENCE: u32 = 60;
@@ -33,7 +36,7 @@ pub struct Common {
     pub origin: Ntp64,
 }
 
-/// Serves one datagram from the opening record, and prints what became of it. It gives up after 60
+/// Serves one datagram by a server that has just begun, and prints what became of it. It gives up after 60
 /// takes that found nothing.
 pub fn serve_once<P: Port, C: Clock, S: Sink>(
     alloc: Global,
@@ -47,7 +50,7 @@ pub fn serve_once<P: Port, C: Clock, S: Sink>(
     // What happened, and what was printed; and where a datagram came, only a fault of the port or of
     // the sink, or want of memory, keeps it from being served.
     ensures served { (ending : Ending) × (events : List Event) × (readings : List ℕ)
-        × Happens common.now.keys common.now.origin ending events readings
+        × Happens common.now ending events readings
         × (P.trace port.new ≡ gained (P.trace port.old) events)
         × Grows (C.readings clock.old) (C.readings clock.new) readings
         × Reports ending result (S.contents out.old) (S.contents out.new)
@@ -69,7 +72,7 @@ pub fn serve_once<P: Port, C: Clock, S: Sink>(
     report(&ending, out)
 }
 
-/// Takes until a datagram comes, and answers it.
+/// Takes until a datagram comes, and answers it by a server that has just begun.
 fn answer_one<P: Port, C: Clock>(
     alloc: Global,
     port: &mut P,
@@ -78,7 +81,43 @@ fn answer_one<P: Port, C: Clock>(
 ) -> Ending
     requires most { 1024 ≤ P.most port.old }
     ensures happens { (events : List Event) × (readings : List ℕ)
-        × Happens common.now.keys common.now.origin result events readings
+        × Happens common.now result events readings
+        × (P.trace port.new ≡ gained (P.trace port.old) events)
+        × Grows (C.readings clock.old) (C.readings clock.new) readings }
+    ensures causes { Causes result (P.faults port.old) (P.faults port.new)
+        (P.quiets port.old) (P.quiets port.new) (P.is_closed port.new) }
+    ensures faults_kept { P.faults port.old ≤ P.faults port.new }
+    ensures quiets_kept { P.quiets port.old ≤ P.quiets port.new }
+    ensures address_kept { P.address port.new ≡ P.address port.old }
+{
+    match opening_book(alloc, common.origin) {
+        Err(_) => Ending::NoMemory,
+        Ok(mut book) => answer_by(alloc, port, clock, common, &mut book),
+    }
+}
+
+/// A server that publishes the opening record, and that nobody has asked yet.
+fn opening_book(alloc: Global, origin: Ntp64) -> Result<Book, AllocError>
+    ensures state { IfOk result (λ book. IsOpeningState origin book.state) }
+    ensures open { IfOk result (λ book. IsOpen book) }
+{
+    let record = Record::opening(alloc, origin)?;
+    Book::begin(alloc, record, Limits::plain(), origin)
+}
+
+/// Takes until a datagram comes, and answers it by this server.
+fn answer_by<P: Port, C: Clock>(
+    alloc: Global,
+    port: &mut P,
+    clock: &mut C,
+    common: &Common,
+    book: &mut Book,
+) -> Ending
+    requires most { 1024 ≤ P.most port.old }
+    requires opening { IsOpeningState common.now.origin book.old.state }
+    requires open { IsOpen book.old }
+    ensures happens { (events : List Event) × (readings : List ℕ)
+        × Happens common.now result events readings
         × (P.trace port.new ≡ gained (P.trace port.old) events)
         × Grows (C.readings clock.old) (C.readings clock.new) readings }
     ensures causes { Causes result (P.faults port.old) (P.faults port.new)
@@ -89,7 +128,7 @@ fn answer_one<P: Port, C: Clock>(
 {
     let mut datagram = Octets::new();
     match wait(port, &mut datagram) {
-        Ok(from) => answer(alloc, port, clock, common, &from, &datagram),
+        Ok(from) => answer(alloc, port, clock, common, book, &from, &datagram),
         Err(ending) => ending,
     }
 }
@@ -119,20 +158,28 @@ fn wait<P: Port>(port: &mut P, into: &mut Octets) -> Result<Addr, Ending>
     Err(Ending::Quiet)
 }
 
-/// Answers a datagram from this address.
+/// Answers a datagram from this address by this server. The clock is read before the datagram is
+/// classed, and again where anything is given.
 fn answer<P: Port, C: Clock>(
     alloc: Global,
     port: &mut P,
     clock: &mut C,
     common: &Common,
+    book: &mut Book,
     from: &Addr,
     datagram: &Octets,
 ) -> Ending
     requires most { 1024 ≤ P.most port.old }
+    requires open { IsOpen book.old }
     ensures follows { (events : List Event) × (readings : List ℕ)
-        × Follows common.now.keys common.now.origin result from.now datagram.now events readings
+        × Follows common.now book.old.state result from.now datagram.now events readings
         × (P.trace port.new ≡ gained (P.trace port.old) events)
         × Grows (C.readings clock.old) (C.readings clock.new) readings }
+
+    // A datagram that is not heard leaves the server as it was.
+    ensures silent { (why : Unheard)
+        → IsClass datagram.now from.now common.now.keys (Class.Silent why) → book.new ≡ book.old }
+
     ensures causes { Causes result (P.faults port.old) (P.faults port.new)
         (P.quiets port.old) (P.quiets port.new) (P.is_closed port.new) }
     ensures faults_kept { P.faults port.old ≤ P.faults port.new }
@@ -140,77 +187,27 @@ fn answer<P: Port, C: Clock>(
     ensures address_kept { P.address port.new ≡ P.address port.old }
 {
     let came = clock.now();
-    match classify(alloc, datagram.as_slice(), from, &common.keys) {
+    let context = context_at(common, came);
+    match take_to(
+        alloc,
+        book,
+        &common.keys,
+        &context,
+        from,
+        datagram.as_slice(),
+    ) {
         Err(_) => Ending::NoMemory,
-        Ok(Class::Silent(why)) => Ending::Silent(why),
-        Ok(Class::Time(ask)) => {
-            let sent = clock.now();
-            give(port, from, &reply(common, &ask, came, sent))
-        }
-        Ok(Class::Look(asked)) => match control_answer(alloc, common, &asked, came) {
-            Err(_) => Ending::NoMemory,
-            Ok(grams) => {
-                let _sent = clock.now();
-                give(port, from, grams.get(0))
-            }
-        },
+        Ok(due) => give_due(port, clock, &common.keys, came, &due, from),
     }
 }
 
-/// The answer to a control request that came at this moment, from the opening record: one datagram.
-fn control_answer(
-    alloc: Global,
-    common: &Common,
-    asked: &Asked,
-    came: u64,
-) -> Result<Grams, AllocError>
-    ensures value { IfOk result
-        (λ grams. grams ≡ gram_of (opening_record common.now.origin) asked.now ∷ []) }
-    ensures short { IfOk result (λ _.
-        length (gram_of (opening_record common.now.origin) asked.now) ≤ HEAD_LEN + MAX_BODY) }
+/// What an answer needs to know beside the server, of a datagram that came at this moment.
+fn context_at(common: &Common, came: u64) -> Context
+    ensures { result ≡ context_at common.now came }
 {
-    let context = Context {
+    Context {
         salt: common.salt,
         origin: common.origin,
         moment: came,
-    };
-    let Answer::Given { grams, .. } = sys_vars::answering::answer(
-        alloc,
-        &Record::opening(common.origin),
-        asked,
-        &context,
-    )?;
-    Ok(grams)
-}
-
-/// The reply to a request, from the opening record.
-fn reply(common: &Common, ask: &Ask, came: u64, sent: u64) -> Octets
-    requires key { HasKey common.now.keys ask.now.auth }
-    ensures value { result ≡ reply_octets common.now.origin ask.now common.now.keys came sent }
-    ensures short { length result ≤ 72 }
-{
-    let record = Record::opening(common.origin);
-    let basis = Basis {
-        system: record.system,
-        clock: record.clock,
-    };
-    time_reply(&basis, ask, &common.keys, came, sent)
-}
-
-/// Gives an answer of one datagram.
-fn give<P: Port>(port: &mut P, to: &Addr, datagram: &Octets) -> Ending
-    requires most { length datagram.now ≤ P.most port.old }
-    ensures given { (events : List Event) × GivesOne result to.now datagram.now events
-        × (P.trace port.new ≡ gained (P.trace port.old) events) }
-    ensures causes { Causes result (P.faults port.old) (P.faults port.new)
-        (P.quiets port.old) (P.quiets port.new) (P.is_closed port.new) }
-    ensures faults_kept { P.faults port.old ≤ P.faults port.new }
-    ensures quiets_kept { P.quiets port.old ≤ P.quiets port.new }
-    ensures address_kept { P.address port.new ≡ P.address port.old }
-{
-    match port.give(to, datagram.as_slice()) {
-        Ok(()) => Ending::Answered(1),
-        Err(PortFault::Failed) => Ending::PortFailed,
-        Err(PortFault::NoMemory) => Ending::NoMemory,
     }
 }

@@ -43,6 +43,8 @@ fn put_ending(line: &mut Octets, ending: &Ending)
             line.put(b"silent ");
             put_unheard(line, why);
         }
+        Ending::Ignored => line.put(b"silent ignored"),
+        Ending::Limited => line.put(b"silent limited"),
         Ending::Words => line.put(b"ntpd: words"),
         Ending::HostFailed => line.put(b"ntpd: host"),
         Ending::PortFailed => line.put(b"ntpd: port"),

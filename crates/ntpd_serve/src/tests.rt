@@ -377,11 +377,14 @@ fn what_is_no_control_request_gets_no_answer(rt: HostRuntime) -> Result<(), Fail
 
 #[test]
 fn words_that_are_no_command_are_refused(rt: HostRuntime) -> Result<(), Fail> {
-    let cases: [&[&str]; 9] = [
+    let cases: [&[&str]; 12] = [
         &[],
         &["once"],
         &["once", "nowhere"],
         &["once", "127.0.0.1"],
+        &["once", "::1"],
+        &["once", "[::1]"],
+        &["once", "::1:123"],
         &["once", "127.0.0.1:0123"],
         &["once", "127.0.0.1:65536"],
         &["once", "127.0.0.1:123", "twice"],
@@ -400,6 +403,22 @@ fn words_that_are_no_command_are_refused(rt: HostRuntime) -> Result<(), Fail> {
         )?;
         check_run(&rt, &run, 1, "ntpd: words\n", 0, "the words");
         assert!(rt; run.ended.single.is_none());
+    }
+    Ok(())
+}
+
+#[test]
+fn an_ipv6_address_is_served_in_each_of_its_texts(rt: HostRuntime) -> Result<(), Fail> {
+    for text in ["[::1]:123", "[0:0:0:0:0:0:0:1]:123", "[::0.0.0.1]:123"] {
+        let run = run_over(
+            &rt,
+            rt.alloc(),
+            &["once", text],
+            one(rt.alloc(), &REQUEST)?,
+            Vec::new(rt.alloc()),
+            Vec::new(rt.alloc()),
+        )?;
+        check_run(&rt, &run, 0, "answered 1\n", 1, text);
     }
     Ok(())
 }
@@ -525,6 +544,35 @@ fn a_host_that_gives_no_port_has_its_status(rt: HostRuntime) -> Result<(), Fail>
     Ok(())
 }
 
+/// Serves a request for the time and a control request over two sockets of this machine.
+fn check_sockets(
+    rt: &impl Abort,
+    alloc: Global,
+    server: &mut UdpPort,
+    client: &mut UdpPort,
+) -> Result<(), Fail> {
+    let at = server.local().ok_or("the server's own address")?;
+    let common = Common {
+        keys: KeyTable::new(alloc),
+        salt: Salt([0; 16]),
+        origin: ORIGIN,
+    };
+    let cases: [(&[u8], &[u8]); 2] = [(&REQUEST, &REPLY), (&READ_STRATUM, &STRATUM)];
+    for (request, answer) in cases {
+        assert!(rt; request.len() <= 48);
+        assert!(rt; client.give(&at, request).is_ok());
+        let mut clock = MemoryClock::of(vec![in alloc; SECOND]?);
+        let mut out = MemorySink::of(alloc, Vec::new(alloc));
+        let status = serve_once(alloc, server, &mut clock, &common, &mut out);
+        assert_eq!(rt; status, Status(0));
+        assert_eq!(rt; out.contents(), b"answered 1\n".as_slice());
+        let mut taken = Octets::new();
+        assert_eq!(rt; client.take(&mut taken), Ok(Taken::Datagram(at)));
+        assert_eq!(rt; taken.as_slice(), answer);
+    }
+    Ok(())
+}
+
 #[test]
 fn requests_on_a_real_socket_are_answered(rt: HostRuntime) -> Result<(), Fail> {
     let any = Addr {
@@ -533,24 +581,19 @@ fn requests_on_a_real_socket_are_answered(rt: HostRuntime) -> Result<(), Fail> {
     };
     let mut server = UdpPort::bind(&rt, &any)?;
     let mut client = UdpPort::bind(&rt, &any)?;
-    let at = server.local().ok_or("the server's own address")?;
-    let common = Common {
-        keys: KeyTable::new(rt.alloc()),
-        salt: Salt([0; 16]),
-        origin: ORIGIN,
+    check_sockets(&rt, rt.alloc(), &mut server, &mut client)
+}
+
+// Where the system has no IPv6, there is nothing to try.
+#[test]
+fn requests_on_a_real_socket_of_ipv6_are_answered(rt: HostRuntime) -> Result<(), Fail> {
+    let any = Addr {
+        ip: Ip::V6([0, 0, 0, 0, 0, 0, 0, 0, 0, 0, 0, 0, 0, 0, 0, 1]),
+        port: 0,
     };
-    let cases: [(&[u8], &[u8]); 2] = [(&REQUEST, &REPLY), (&READ_STRATUM, &STRATUM)];
-    for (request, answer) in cases {
-        assert!(rt; request.len() <= 48);
-        assert!(rt; client.give(&at, request).is_ok());
-        let mut clock = MemoryClock::of(vec![in rt.alloc(); SECOND]?);
-        let mut out = MemorySink::of(rt.alloc(), Vec::new(rt.alloc()));
-        let status = serve_once(rt.alloc(), &mut server, &mut clock, &common, &mut out);
-        assert_eq!(rt; status, Status(0));
-        assert_eq!(rt; out.contents(), b"answered 1\n".as_slice());
-        let mut taken = Octets::new();
-        assert_eq!(rt; client.take(&mut taken), Ok(Taken::Datagram(at)));
-        assert_eq!(rt; taken.as_slice(), answer);
-    }
-    Ok(())
+    let Ok(mut server) = UdpPort::bind(&rt, &any) else {
+        return Ok(());
+    };
+    let mut client = UdpPort::bind(&rt, &any)?;
+    check_sockets(&rt, rt.alloc(), &mut server, &mut client)
 }

@@ -11,5 +11,5 @@ returns-clause-served g c =
       h.3,
       h.4,
       c.report.ensures.reported,
-      IsServed-HasCome _ _ _ _ _ _ _ _ _ _ _ _ _ _ _ h.2 c.answer_one-ending.ensures.causes c.report.ensures.reported c.report.ensures.failed,
+      IsServed-HasCome _ _ _ _ _ _ _ _ _ _ _ _ _ _ h.2 c.answer_one-ending.ensures.causes c.report.ensures.reported c.report.ensures.failed,
     )

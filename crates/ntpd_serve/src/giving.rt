@@ -1,0 +1,162 @@
+ghost use Rattle.std.specs.Prelude.{◌≡◌, ◌≤◌, ℕ, List, length};
+ghost use Rattle.edge_traits.specs.Told.{gained, Grows};
+ghost use Rattle.edge_traits.specs.declared.port.Event.{Event};
+ghost use Rattle.ntpd_serve.specs.Due.{IsGivable};
+ghost use Rattle.ntpd_serve.specs.Once.{Causes, GivesDue, GivesOne};
+
+use crate::due::Due;
+use crate::ending::Ending;
+use edge_traits::{Clock, Octets, Port, PortFault};
+use mac_keys::KeyTable;
+use net_addr::Addr;
+use server_core::{rate_reply, time_reply};
+
+/// Gives what a datagram is due that came at this moment, or nothing. The clock is read where
+/// anything is given.
+pub fn give_due<P: Port, C: Clock>(
+    port: &mut P,
+    clock: &mut C,
+    keys: &KeyTable,
+    came: u64,
+    due: &Due,
+    to: &Addr,
+) -> Ending
+    requires most { 1024 ≤ P.most port.old }
+    requires givable { IsGivable keys.now due.now }
+    ensures gives { (events : List Event) × (readings : List ℕ)
+        × GivesDue keys.now came due.now result to.now events readings
+        × (P.trace port.new ≡ gained (P.trace port.old) events)
+        × Grows (C.readings clock.old) (C.readings clock.new) readings }
+    ensures causes { Causes result (P.faults port.old) (P.faults port.new)
+        (P.quiets port.old) (P.quiets port.new) (P.is_closed port.new) }
+    ensures faults_kept { P.faults port.old ≤ P.faults port.new }
+    ensures quiets_kept { P.quiets port.old ≤ P.quiets port.new }
+    ensures address_kept { P.address port.new ≡ P.address port.old }
+{
+    match due {
+        Due::Unheard(why) => Ending::Silent(*why),
+        Due::Ignored => Ending::Ignored,
+        Due::Limited => Ending::Limited,
+        Due::Time(ask, basis) => {
+            let sent = clock.now();
+            give(port, to, &time_reply(basis, ask, keys, came, sent))
+        }
+        Due::Rate(ask) => {
+            let _sent = clock.now();
+            give(port, to, &rate_reply(ask))
+        }
+        Due::Grams(grams) => {
+            let _sent = clock.now();
+            give(port, to, grams.get(0))
+        }
+    }
+}
+
+/// Gives an answer of one datagram.
+fn give<P: Port>(port: &mut P, to: &Addr, datagram: &Octets) -> Ending
+    requires most { length datagram.now ≤ P.most port.old }
+    ensures given { (events : List Event) × GivesOne result to.now datagram.now events
+        × (P.trace port.new ≡ gained (P.trace port.old) events) }
+    ensures causes { Causes result (P.faults port.old) (P.faults port.new)
+        (P.quiets port.old) (P.quiets port.new) (P.is_closed port.new) }
+    ensures faults_kept { P.faults port.old ≤ P.faults port.new }
+    ensures quiets_kept { P.quiets port.old ≤ P.quiets port.new }
+    ensures address_kept { P.address port.new ≡ P.address port.old }
+{
+    match port.give(to, datagram.as_slice()) {
+        Ok(()) => Ending::Answered(1),
+        Err(PortFault::Failed) => Ending::PortFailed,
+        Err(PortFault::NoMemory) => Ending::NoMemory,
+    }
+}
+
+#[cfg(test)]
+mod tests {
+    ghost use Rattle.std.specs.Prelude.{[]};
+
+    use super::*;
+    use crate::due::{due_by, due_with};
+    use crate::report::report;
+    use edge_traits::{Event, MemoryClock, MemoryPort, MemorySink};
+    use fixed_time::Ntp64;
+    use mac_keys::Auth;
+    use net_addr::Ip;
+    use server_core::{Ask, Basis, Verdict};
+    use std::alloc::{AllocError, Global};
+    use std::test::Fail;
+    use sys_vars::{Answer, Record};
+
+    /// 1 January 1970 (RFC 5905, figure 4).
+    const ORIGIN: Ntp64 = Ntp64(0x83aa_7e80_0000_0000);
+
+    const SECOND: u64 = 1 << 32;
+
+    const ASK: Ask = Ask {
+        from: Addr {
+            ip: Ip::V4([10, 0, 0, 1]),
+            port: 40000,
+        },
+        version: 4,
+        poll: 6,
+        transmit: ORIGIN,
+        auth: Auth::Absent,
+    };
+
+    /// The reply of a server that knows no time yet, one second after ORIGIN.
+    const TIME: [u8; 48] = *b"\xe4\x00\x06\xec\x00\x00\x00\x00\x00\x10\x00\x00INIT\
+        \x00\x00\x00\x00\x00\x00\x00\x00\x83\xaa\x7e\x80\x00\x00\x00\x00\
+        \x83\xaa\x7e\x81\x00\x00\x00\x00\x83\xaa\x7e\x81\x00\x00\x00\x00";
+
+    /// The kiss code RATE, which tells no time.
+    const RATE: [u8; 48] = *b"\xe4\x00\x06\xec\x00\x00\x00\x00\x00\x00\x00\x00RATE\
+        \x00\x00\x00\x00\x00\x00\x00\x00\x83\xaa\x7e\x80\x00\x00\x00\x00\
+        \x83\xaa\x7e\x80\x00\x00\x00\x00\x83\xaa\x7e\x80\x00\x00\x00\x00";
+
+    /// What is given, and what is printed.
+    fn given(alloc: Global, due: &Due) -> Result<(Octets, MemorySink), AllocError>
+        requires { IsGivable [] due.now }
+    {
+        let mut port = MemoryPort::of(alloc, Vec::new(alloc), Vec::new(alloc));
+        let mut clock = MemoryClock::of(vec![in alloc; SECOND]?);
+        let mut out = MemorySink::of(alloc, Vec::new(alloc));
+        let keys = KeyTable::new(alloc);
+        let ending = give_due(&mut port, &mut clock, &keys, SECOND, due, &ASK.from);
+        let _status = report(&ending, &mut out);
+        let mut gram = Octets::new();
+        for event in port.events() {
+            if let Event::Sent(_, octets) = event {
+                gram = octets.copy();
+            }
+        }
+        Ok((gram, out))
+    }
+
+    #[test]
+    fn each_verdict_has_its_ending(rt: HostRuntime) -> Result<(), Fail> {
+        let record = Record::opening(rt.alloc(), ORIGIN)?;
+        let basis = Basis {
+            system: record.system,
+            clock: record.clock,
+        };
+        let cases: [(Verdict, &str, &[u8]); 4] = [
+            (Verdict::Ignored, "silent ignored\n", b""),
+            (Verdict::Limited, "silent limited\n", b""),
+            (Verdict::Rate, "answered 1\n", &RATE),
+            (Verdict::Served(basis), "answered 1\n", &TIME),
+        ];
+        for (verdict, line, octets) in cases {
+            let (gram, out) = given(rt.alloc(), &due_by(ASK, verdict))?;
+            assert_eq!(rt; out.contents(), line.as_bytes(), "what {verdict:?} prints");
+            assert_eq!(rt; gram.as_slice(), octets, "what {verdict:?} gives");
+        }
+        Ok(())
+    }
+
+    #[test]
+    fn a_refused_control_request_has_its_ending(rt: HostRuntime) -> Result<(), Fail> {
+        let (gram, out) = given(rt.alloc(), &due_with(Answer::Ignored))?;
+        assert_eq!(rt; out.contents(), b"silent ignored\n".as_slice());
+        assert_eq!(rt; gram.len(), 0);
+        Ok(())
+    }
+}
