@@ -1,5 +1,5 @@
 -- What `ntpd once` does at its port and its clock: one datagram, answered by a server that has just begun (our own rule, over RFC 5905 and RFC 9327).
-use Rattle.std.specs.Prelude.{◌≡◌, ◌⊎◌, ◌<◌, ◌*◌, ◌^◌, ℕ, List, [], ◌∷◌, ◌++◌, replicate, Bool, IsTrue}
+use Rattle.std.specs.Prelude.{◌≡◌, ◌≢◌, ◌⊎◌, ◌<◌, ◌*◌, ◌^◌, ℕ, List, [], ◌∷◌, ◌++◌, replicate, Bool, IsTrue}
 use Rattle.fixed_time.specs.declared.time.Ntp64.{Ntp64}
 use Rattle.mac_keys.specs.declared.keys.Key.{Key}
 use Rattle.net_addr.specs.declared.addr.Addr.{Addr}
@@ -78,7 +78,7 @@ Follows common s HostFailed from octets events readings = ⊥
 Follows common s Quiet from octets events readings = ⊥
 Follows common s Closed from octets events readings = ⊥
 
--- a datagram came after fewer silences than end the call, to an opening server
+-- a datagram came after fewer silences than end the call, to a server that has just begun and so refuses nobody
 pub record Comes (common : Common) (ending : Ending) (events : List Event) (readings : List ℕ) : Type 0 where
   pub quiets : ℕ
   pub from : Addr
@@ -89,6 +89,7 @@ pub record Comes (common : Common) (ending : Ending) (events : List Event) (read
   pub in_time : quiets < PATIENCE
   pub gained : events ≡ silences quiets ++ Took from octets ∷ after
   pub follows : Follows common server ending from octets after readings
+  pub unrefused : (ending ≢ Ignored) × (ending ≢ Limited)
 
 -- nothing but silences came, by how the call ends
 abbrev pub OnlySilences : Ending → List Event → Type 0

@@ -9,6 +9,7 @@ mod command;
 mod due;
 mod ending;
 mod giving;
+mod laws;
 mod once;
 mod report;
 #[cfg(test)]

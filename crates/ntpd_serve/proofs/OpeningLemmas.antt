@@ -1,0 +1,110 @@
+-- A server that has just begun refuses nobody.
+use Rattle.std.proofs.Common.{◌≡◌, ◌≢◌, ℕ, Bool, true, false, cond, ◌||◌, Option, Some, None, List, [], ◌∷◌, refl, sym, ap, subst, ◌∙◌, arith}
+use Rattle.std.specs.Option.{option_map, unwrap_or}
+use Rattle.std.proofs.lemmas.List.Elements.{All-head, All-tail}
+use Rattle.net_addr.specs.declared.addr.Ip.{Ip}
+use Rattle.net_addr.specs.Prefixes.{has_ip}
+use Rattle.access_rules.specs.declared.rules.Rule.{Rule}
+use Rattle.access_rules.specs.declared.flags.TheConstants.{IGNORE, NOQUERY}
+use Rattle.access_rules.specs.Flags.{has_flag}
+use Rattle.access_rules.specs.Rules.{IsPlain, flags_of}
+use Rattle.fixed_time.specs.declared.time.Ntp64.{Ntp64}
+use Rattle.recency.specs.declared.row.Row.{Row}
+use Rattle.recency.specs.Rows.{find_row}
+use Rattle.sys_vars.specs.Answers.{gram_of}
+use Rattle.sys_vars.specs.Opening.{IsOpening}
+use Rattle.sys_vars.specs.declared.answer.Answer.{Answer}
+use Rattle.sys_vars.specs.declared.answer.Answer.TheVariants.{Ignored as IgnoredLook, Given}
+use Rattle.sys_vars.specs.declared.asked.Asked.{Asked}
+use Rattle.sys_vars.specs.declared.context.Context.{Context}
+use Rattle.sys_vars.specs.declared.published.Record.{Record}
+use Rattle.server_core.specs.declared.class.Ask.{Ask}
+use Rattle.server_core.specs.declared.class.Class.{Class}
+use Rattle.server_core.specs.declared.class.Class.TheVariants.{Silent as SilentClass, Time as TimeClass, Look as LookClass}
+use Rattle.server_core.specs.declared.op.Op.TheVariants.{Arrive, Look}
+use Rattle.server_core.specs.declared.step.Reply.TheVariants.{Time, Looked}
+use Rattle.server_core.specs.declared.verdict.Verdict.{Verdict}
+use Rattle.server_core.specs.declared.verdict.Verdict.TheVariants.{Ignored, Served}
+use Rattle.server_core.specs.States.{ServerState, reply_to}
+use Rattle.server_core.specs.Verdicts.{basis_of, drawn, is_denied, rate_verdict, rows_touched}
+use Rattle.net_addr.specs.declared.addr.Addr.{Addr}
+use Rattle.edge_traits.specs.declared.port.Event.{Event}
+use Rattle.ntpd_serve.specs.declared.due.Due.{Due}
+use Rattle.ntpd_serve.specs.declared.due.Due.TheVariants.{Unheard as UnheardDue, Ignored as IgnoredDue, Limited as LimitedDue, Time as TimeDue, Rate as RateDue, Grams as GramsDue}
+use Rattle.ntpd_serve.specs.declared.ending.Ending.{Ending}
+use Rattle.ntpd_serve.specs.declared.ending.Ending.TheVariants.{Ignored as IgnoredEnd, Limited as LimitedEnd}
+use Rattle.ntpd_serve.specs.declared.once.Common.{Common}
+use Rattle.ntpd_serve.specs.Due.{IsDueTo, due_by, due_with}
+use Rattle.ntpd_serve.specs.Once.{IsOpeningState, Follows, context_at}
+
+-- of two rules without flags, whichever has the address, or neither, it has none
+flags_of-two : (first second : Bool) (one two : Rule) → one.flags ≡ 0 → two.flags ≡ 0
+    → unwrap_or (option_map (λ (rule : Rule). rule.flags) (cond second (Some two) (cond first (Some one) None))) 0 ≡ 0
+flags_of-two first true one two none_one none_two = none_two
+flags_of-two true false one two none_one none_two = none_one
+flags_of-two false false one two none_one none_two = refl
+
+-- under plain rules no address has a flag
+flags_of-plain : (rules : List Rule) (ip : Ip) → IsPlain rules → flags_of rules ip ≡ 0
+flags_of-plain [] ip plain = absurd (omega (arith, plain.two))
+flags_of-plain (one ∷ []) ip plain = absurd (omega (arith, plain.two))
+flags_of-plain (one ∷ (two ∷ (three ∷ rules))) ip plain = absurd (omega (arith, plain.two))
+flags_of-plain (one ∷ (two ∷ [])) ip plain =
+    let NoFlags : Rule → Type 0 = λ rule. rule.flags ≡ 0 in
+    flags_of-two (has_ip one.prefix ip) (has_ip two.prefix ip) one two
+    (All-head NoFlags one (two ∷ []) plain.no_flags)
+    (All-head NoFlags two [] (All-tail NoFlags one (two ∷ []) plain.no_flags))
+
+-- nor at a server that has just begun
+flags_of-opening : (origin : Ntp64) (rec : Record) (ip : Ip) → IsOpening origin rec → flags_of rec.rules ip ≡ 0
+flags_of-opening origin rec ip (rules, plain, same) =
+    ap (λ (r : Record). flags_of r.rules ip) same ∙ flags_of-plain rules ip plain
+
+-- a client without flags is not limited
+rate_verdict-no_flags : (rec : Record) (stamp : ℕ) (row : Option Row) → rate_verdict rec 0 stamp row ≡ Served (basis_of rec)
+rate_verdict-no_flags rec stamp None = refl
+rate_verdict-no_flags rec stamp (Some row) = refl
+
+-- each request for the time is served
+pub reply_to-Arrive : (origin : Ntp64) (s : ServerState) (ask : Ask) (came : ℕ) → IsOpeningState origin s → reply_to s (Arrive ask came) ≡ Time (Served (basis_of s.published))
+reply_to-Arrive origin s ask came opening =
+    let stamp : ℕ = drawn s.stamp came in
+    let row : Option Row = find_row (rows_touched s.published s.limits s.rows stamp ask) ask.from.ip in
+    let judged : ℕ → Verdict = λ flags. cond (has_flag flags IGNORE) Ignored (cond (is_denied flags ask) Ignored (rate_verdict s.published flags stamp row)) in
+    ap Time (ap judged (flags_of-opening origin s.published ask.from.ip opening.published) ∙ rate_verdict-no_flags s.published stamp row)
+
+-- each control request is answered
+pub reply_to-Look : (origin : Ntp64) (s : ServerState) (asked : Asked) (context : Context) → IsOpeningState origin s → reply_to s (Look asked context) ≡ Looked (Given s.published.epoch (gram_of s.published asked ∷ []))
+reply_to-Look origin s asked context opening =
+    let given : Answer = Given s.published.epoch (gram_of s.published asked ∷ []) in
+    let judged : ℕ → Answer = λ flags. cond (has_flag flags IGNORE || has_flag flags NOQUERY) IgnoredLook given in
+    ap Looked (ap judged (flags_of-opening origin s.published asked.from.ip opening.published))
+
+-- what is due is no refusal
+abbrev IsHeard : Due → Type 0
+IsHeard IgnoredDue = ⊥
+IsHeard LimitedDue = ⊥
+IsHeard (UnheardDue why) = Unit {0}
+IsHeard (TimeDue ask basis) = Unit {0}
+IsHeard (RateDue ask) = Unit {0}
+IsHeard (GramsDue grams) = Unit {0}
+
+IsHeard-due : (origin : Ntp64) (s : ServerState) (context : Context) (class : Class) (due : Due) → IsOpeningState origin s → IsDueTo s context class due → IsHeard due
+IsHeard-due origin s context (SilentClass why) due opening same = subst IsHeard (sym same) tt
+IsHeard-due origin s context (TimeClass ask) due opening (verdict, replied, same) =
+    let judged : Time verdict ≡ Time (Served (basis_of s.published)) = sym replied ∙ reply_to-Arrive origin s ask context.moment opening in
+    let served : verdict ≡ Served (basis_of s.published) = cc judged in
+    subst IsHeard (sym (same ∙ ap (due_by ask) served)) tt
+IsHeard-due origin s context (LookClass asked) due opening (answer, replied, same) =
+    let looked : Looked answer ≡ Looked (Given s.published.epoch (gram_of s.published asked ∷ [])) = sym replied ∙ reply_to-Look origin s asked context opening in
+    let given : answer ≡ Given s.published.epoch (gram_of s.published asked ∷ []) = cc looked in
+    subst IsHeard (sym (same ∙ ap due_with given)) tt
+
+-- so no call ends by a refusal
+pub unrefused-Follows : (common : Common) (s : ServerState) (ending : Ending) (from : Addr) (octets : List ℕ) (events : List Event) (readings : List ℕ)
+    → IsOpeningState common.origin s → Follows common s ending from octets events readings → (ending ≢ IgnoredEnd) × (ending ≢ LimitedEnd)
+unrefused-Follows common s ending from octets events readings opening follows =
+    let At : Ending → Type 0 = λ other. Follows common s other from octets events readings in (
+      λ ignored. let none = subst At ignored follows in IsHeard-due common.origin s (context_at common none.came) none.is_due.0 IgnoredDue opening none.is_due.2,
+      λ limited. let none = subst At limited follows in IsHeard-due common.origin s (context_at common none.came) none.is_due.0 LimitedDue opening none.is_due.2,
+    )
