@@ -72,8 +72,6 @@ fn give<P: Port>(port: &mut P, to: &Addr, datagram: &Octets) -> Ending
 
 #[cfg(test)]
 mod tests {
-    ghost use Rattle.std.specs.Prelude.{[]};
-
     use super::*;
     use crate::due::{due_by, due_with};
     use crate::report::report;
@@ -113,14 +111,13 @@ mod tests {
         \x83\xaa\x7e\x80\x00\x00\x00\x00\x83\xaa\x7e\x80\x00\x00\x00\x00";
 
     /// What is given, and what is printed.
-    fn given(alloc: Global, due: &Due) -> Result<(Octets, MemorySink), AllocError>
-        requires { IsGivable [] due.now }
+    fn given(alloc: Global, keys: &KeyTable, due: &Due) -> Result<(Octets, MemorySink), AllocError>
+        requires { IsGivable keys.now due.now }
     {
         let mut port = MemoryPort::of(alloc, Vec::new(alloc), Vec::new(alloc));
         let mut clock = MemoryClock::of(vec![in alloc; SECOND]?);
         let mut out = MemorySink::of(alloc, Vec::new(alloc));
-        let keys = KeyTable::new(alloc);
-        let ending = give_due(&mut port, &mut clock, &keys, SECOND, due, &ASK.from);
+        let ending = give_due(&mut port, &mut clock, keys, SECOND, due, &ASK.from);
         let _status = report(&ending, &mut out);
         let mut gram = Octets::new();
         for event in port.events() {
@@ -138,6 +135,7 @@ mod tests {
             system: record.system,
             clock: record.clock,
         };
+        let keys = KeyTable::new(rt.alloc());
         let cases: [(Verdict, &str, &[u8]); 4] = [
             (Verdict::Ignored, "silent ignored\n", b""),
             (Verdict::Limited, "silent limited\n", b""),
@@ -145,7 +143,7 @@ mod tests {
             (Verdict::Served(basis), "answered 1\n", &TIME),
         ];
         for (verdict, line, octets) in cases {
-            let (gram, out) = given(rt.alloc(), &due_by(ASK, verdict))?;
+            let (gram, out) = given(rt.alloc(), &keys, &due_by(ASK, verdict))?;
             assert_eq!(rt; out.contents(), line.as_bytes(), "what {verdict:?} prints");
             assert_eq!(rt; gram.as_slice(), octets, "what {verdict:?} gives");
         }
@@ -154,7 +152,8 @@ mod tests {
 
     #[test]
     fn a_refused_control_request_has_its_ending(rt: HostRuntime) -> Result<(), Fail> {
-        let (gram, out) = given(rt.alloc(), &due_with(Answer::Ignored))?;
+        let keys = KeyTable::new(rt.alloc());
+        let (gram, out) = given(rt.alloc(), &keys, &due_with(Answer::Ignored))?;
         assert_eq!(rt; out.contents(), b"silent ignored\n".as_slice());
         assert_eq!(rt; gram.len(), 0);
         Ok(())

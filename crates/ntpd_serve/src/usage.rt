@@ -17,7 +17,8 @@ pub enum Notice {
 }
 
 /// How to call it.
-pub const HELP: &[u8] = b"usage: ntpd once ADDR:PORT    serve one datagram at that address, as 127.0.0.1:123 or [::1]:123
+pub const HELP: &[u8] =
+    b"usage: ntpd once ADDR:PORT    serve one datagram at that address, as 127.0.0.1:123 or [::1]:123
        ntpd --help            print this
        ntpd --version         print the version
 ";
