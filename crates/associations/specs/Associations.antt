@@ -1,0 +1,51 @@
+-- What is kept of a server, and what a request to it changes (RFC 5905, sections 9.1 and 13; RFC 9327, section 3.2; the values before the first reply are our own rule).
+use Rattle.std.specs.Prelude.{ℕ, ◌+◌, ◌*◌, ◌%◌, ◌^◌, ◌==◌, ◌&&◌, min, pos, Bool, false, not, if◌then◌else◌, None, Some, codes}
+use Rattle.access_rules.specs.declared.servers.ServerLine.{ServerLine}
+use Rattle.clock_filter.specs.Filtering.{empty_state}
+use Rattle.fixed_time.specs.declared.time.Ntp64.{Ntp64}
+use Rattle.associations.specs.declared.association.Association.{Association}
+use Rattle.associations.specs.declared.association.TheConstants.{UNREACHABLE, MAX_EVENTS}
+
+-- before its first reply: leap 3, stratum 16, refid INIT, an empty filter without an estimate, all else 0
+abbrev pub opened : ServerLine → Association
+opened line = record {
+  line = line;
+  pmode = 0;
+  ppoll = pos 0;
+  leap = 3;
+  stratum = 16;
+  precision = pos 0;
+  root_delay = 0;
+  root_disp = 0;
+  refid = codes "INIT";
+  reference = record { 0 = 0 };
+  received = record { 0 = 0 };
+  transmit = record { 0 = 0 };
+  pending = None;
+  reach = 0;
+  auth_ok = false;
+  filter = empty_state;
+  estimate = None;
+  events = 0;
+  code = 0;
+}
+
+-- after an event: its code is the last one, and events are counted up to 15
+abbrev pub with_event : ℕ → Association → Association
+with_event code p = record p { events = min (p.events + 1) MAX_EVENTS; code = code }
+
+-- the reach register is shifted left by one bit of its eight
+abbrev pub reach_after_request : ℕ → ℕ
+reach_after_request reach = reach * 2 % 2 ^ 8
+
+-- by that it becomes empty, and was not
+abbrev pub runs_empty : ℕ → Bool
+runs_empty reach = not (reach == 0) && (reach_after_request reach == 0)
+
+-- a request went out with this transmit timestamp, for which a reply is awaited
+abbrev pub awaiting : Association → Ntp64 → Association
+awaiting p transmit = record p { pending = Some transmit; reach = reach_after_request p.reach }
+
+-- and where the reach register ran empty by it, the server is no longer reachable
+abbrev pub asked : Association → Ntp64 → Association
+asked p transmit = if runs_empty p.reach then with_event UNREACHABLE (awaiting p transmit) else awaiting p transmit

@@ -1,0 +1,101 @@
+ghost use Rattle.std.specs.Prelude.{◌≡◌, IfErr, false};
+ghost use Rattle.associations.specs.Judging.{IsDecided, ends_waiting};
+ghost use Rattle.associations.specs.Accepting.{accepted, gives_estimate, is_fresh, is_good, judged, reach_after_reply, sampled, taken_over, told, verdict_of};
+
+use crate::association::{Association, REACHABLE, note_event};
+use crate::judging::{ReplyFault, first_fault, refuse};
+use crate::reading::Reply;
+use crate::sampling::measure;
+use clock_filter::Sample;
+use fixed_time::{Ntp64, from_short};
+use mac_keys::Auth;
+
+/// Whether the MAC is good with any key.
+fn is_good(auth: Auth) -> bool
+    ensures { result ≡ is_good auth }
+{
+    match auth {
+        Auth::Good(_) => true,
+        Auth::Absent | Auth::Bad => false,
+    }
+}
+
+/// Takes the header's fields over.
+fn take_header(of: &mut Association, reply: &Reply)
+    ensures { of.new ≡ told of.old reply.now }
+{
+    let header = &reply.header;
+    of.pmode = header.mode;
+    of.ppoll = header.poll;
+    of.leap = header.leap;
+    of.stratum = header.stratum;
+    of.precision = header.precision;
+    of.root_delay = from_short(header.root_delay);
+    of.root_disp = from_short(header.root_disp);
+    of.refid = header.refid;
+    of.reference = header.reference;
+    of.transmit = header.transmit;
+    of.auth_ok = is_good(reply.auth);
+}
+
+/// The reach register after a reply.
+fn mark(reach: u8) -> u8
+    ensures { result ≡ reach_after_reply reach }
+{
+    reach | 1
+}
+
+/// Keeps that a reply came when our clock showed the destination timestamp.
+fn take_over(of: &mut Association, reply: &Reply, destination: Ntp64)
+    ensures { of.new ≡ taken_over of.old reply.now destination }
+{
+    let is_new = of.reach == 0;
+    take_header(of, reply);
+    of.received = destination;
+    of.pending = None;
+    of.reach = mark(of.reach);
+    if is_new {
+        note_event(of, REACHABLE);
+    }
+}
+
+/// Puts a sample into the filter; whether there is a new estimate.
+fn put_sample(of: &mut Association, sample: Sample, moment: u64) -> bool
+    ensures after { of.new ≡ sampled of.old sample moment }
+    ensures fresh { result ≡ gives_estimate of.old.filter sample moment }
+{
+    let estimate = of.filter.put(sample, moment);
+    of.estimate = estimate.or(of.estimate);
+    estimate.is_some()
+}
+
+/// Accepts a reply; whether there is a new estimate.
+fn accept(of: &mut Association, reply: &Reply, destination: Ntp64, moment: u64) -> bool
+    ensures after { of.new ≡ accepted of.old reply.now destination moment }
+    ensures fresh { result ≡ is_fresh of.old reply.now destination moment }
+{
+    let sample = measure(&reply.header, destination, moment);
+    take_over(of, reply, destination);
+    put_sample(of, sample, moment)
+}
+
+/// Refuses a reply for its first fault, or accepts it; whether there is a new estimate.
+pub(crate) fn judge(
+    of: &mut Association,
+    reply: &Reply,
+    destination: Ntp64,
+    moment: u64,
+) -> Result<bool, ReplyFault>
+    ensures verdict { result ≡ verdict_of of.old reply.now destination moment }
+    ensures after { of.new ≡ judged of.old reply.now destination moment }
+    ensures kept { IfErr result (λ fault. ends_waiting fault ≡ false → of.new ≡ of.old) }
+    ensures decided { IfErr result IsDecided }
+{
+    match first_fault(of, reply) {
+        Some(fault) => {
+            refuse(of, fault);
+            Err(fault)
+        }
+        None => Ok(accept(of, reply, destination, moment)),
+    }
+}

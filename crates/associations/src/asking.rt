@@ -1,0 +1,74 @@
+ghost use Rattle.std.specs.Prelude.{◌≡◌, ◌≤◌, ◌++◌, List, ℕ};
+ghost use Rattle.std.specs.Option.{option_copied};
+ghost use Rattle.ntp_packet.specs.Packet.{IsPacket, IsPacketMode, IsPacketVersion, spelled_header};
+ghost use Rattle.associations.specs.Requests.{key_by, request_header, request_of};
+
+use access_rules::ServerLine;
+use edge_traits::Octets;
+use fixed_time::{Ntp64, Short};
+use mac_keys::{Key, KeyTable};
+use ntp_packet::Header;
+use ntp_trailer::append_mac;
+
+/// The mode of a client's request (RFC 5905, section 7.3, figure 10).
+pub const MODE_CLIENT: u8 = 3;
+
+/// The version of a request (RFC 5905).
+pub const VERSION: u8 = 4;
+
+/// The precision of our clock, in log2 seconds: about a microsecond (our own rule).
+pub const PRECISION: i8 = -20;
+
+/// The request to a server that leaves at the time `transmit`. A MAC ends it where the line names a
+/// key that is there.
+#[tactic(auto, unfolding(crate::specs::Requests::request_of))]
+pub(crate) fn make_request(line: ServerLine, keys: &KeyTable, transmit: Ntp64) -> Octets
+    ensures value { result ≡ request_of line keys.now transmit }
+    ensures packet { IsPacket result (request_header line transmit) }
+{
+    let mut request = Octets::new();
+    request.put(&header_octets(line, transmit));
+    if let Some(key) = find_key(keys, line.key) {
+        append_mac(key, &mut request);
+    }
+    request
+}
+
+/// The header of the request, as octets.
+fn header_octets(line: ServerLine, transmit: Ntp64) -> [u8; 48]
+    ensures spelled { result ≡ spelled_header (request_header line transmit) }
+    ensures packet { (rest : List ℕ) → IsPacket (result ++ rest) (request_header line transmit) }
+{
+    ntp_packet::write(&make_header(line, transmit))
+}
+
+/// The key with this id, if it is there; id 0 is none.
+fn find_key(keys: &KeyTable, id: u32) -> Option<&Key>
+    ensures { option_copied result ≡ key_by keys.now id }
+{
+    if id == 0 { None } else { keys.find(id) }
+}
+
+#[tactic(auto, unfolding(crate::specs::Requests::request_header))]
+fn make_header(line: ServerLine, transmit: Ntp64) -> Header
+    ensures value { result ≡ request_header line transmit }
+    ensures leap { result.leap ≤ 3 }
+    ensures version { IsPacketVersion result.version }
+    ensures mode { IsPacketMode result.mode }
+{
+    Header {
+        leap: 0,
+        version: VERSION,
+        mode: MODE_CLIENT,
+        stratum: 0,
+        poll: line.poll.cast_signed(),
+        precision: PRECISION,
+        root_delay: Short(0),
+        root_disp: Short(0),
+        refid: [0; 4],
+        reference: Ntp64(0),
+        origin: Ntp64(0),
+        receive: Ntp64(0),
+        transmit,
+    }
+}

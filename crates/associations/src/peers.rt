@@ -1,0 +1,215 @@
+ghost use Rattle.std.specs.Prelude.{◌≡◌, ◌+◌, ◌-◌, ◌≤◌, ◌<◌, ◌↔◌, Option, None, Err, false, length, map, slice_get, slice_set, IfErr, IfOk, IfSome, IsSome};
+ghost use Rattle.std.specs.List.{position};
+ghost use Rattle.associations.specs.Accepting.{judged, verdict_of};
+ghost use Rattle.associations.specs.Associations.{asked, opened};
+ghost use Rattle.associations.specs.Judging.{IsDecided, ends_waiting};
+ghost use Rattle.associations.specs.Replies.{IsRead};
+ghost use Rattle.associations.specs.Requests.{request_of};
+ghost use Rattle.associations.specs.Taking.{HasPeer, IsReadable, answer_by, answer_to, line_for, peer_at, peers_after, place_for, same_addr, time_at};
+
+use crate::accepting::judge;
+use crate::asking::make_request;
+use crate::association::{Association, note_request, open};
+use crate::judging::ReplyFault;
+use crate::reading::{Reply, read_reply};
+use access_rules::ServerLine;
+use discipline::SoftClock;
+use edge_traits::Octets;
+use mac_keys::KeyTable;
+use net_addr::{Addr, same_ip};
+use std::alloc::{AllocError, Global};
+use std::marker::Model;
+
+/// The most servers.
+pub const MAX_PEERS: usize = 32;
+
+/// A reply that was accepted: the association number of its server, and whether the clock filter
+/// gave a new estimate.
+#[derive(Clone, Copy, Debug, PartialEq, Eq)]
+pub struct TakenReply {
+    pub peer: u16,
+    pub fresh: bool,
+}
+
+/// The associations of the servers, in the order of their lines. Association numbers count from 1.
+#[derive(Drop)]
+pub struct Peers {
+    list: Vec<Association>,
+}
+
+impl Model for Peers {
+    ghost use Rattle.std.specs.Prelude.{List, length, ◌≤◌};
+    ghost use Rattle.associations.specs.declared.association.Association.{Association};
+
+    ghost Value = { List Association };
+
+    ghost view = { λ p. p.list.items };
+
+    ghost invariant = { λ p. length p.list.items ≤ 32 };
+}
+
+/// Whether two addresses and their ports are the same.
+fn same_addr(one: &Addr, other: &Addr) -> bool
+    ensures { result ≡ same_addr one.now other.now }
+{
+    same_ip(&one.ip, &other.ip) && one.port == other.port
+}
+
+/// The place of the first line with this address and port.
+fn find_line(list: &[Association], from: &Addr) -> Option<usize>
+    ensures { result ≡ position (λ p. same_addr p.line.addr from.now) list.now }
+{
+    list.iter().position(|p| same_addr(&p.line.addr, from))
+}
+
+/// That place, or the end.
+fn find_place(list: &[Association], from: &Addr) -> usize
+    ensures place { result ≡ place_for list.now from.now }
+    ensures within { result ≤ length list.now }
+{
+    find_line(list, from).unwrap_or(list.len())
+}
+
+/// The answer of a verdict on a peer's reply.
+fn answer(peer: u16, verdict: Result<bool, ReplyFault>) -> Result<TakenReply, ReplyFault>
+    ensures value { result ≡ answer_by peer verdict }
+    ensures fault { IfErr result (λ fault. verdict ≡ Err fault) }
+{
+    match verdict {
+        Ok(fresh) => Ok(TakenReply { peer, fresh }),
+        Err(fault) => Err(fault),
+    }
+}
+
+impl Peers {
+    /// An association for each line; no server was asked yet.
+    pub fn of(alloc: Global, lines: &[ServerLine]) -> Result<Peers, AllocError>
+        requires { length lines.now ≤ MAX_PEERS }
+        ensures { IfOk result (λ peers. peers ≡ map opened lines.now) }
+    {
+        let mut list = Vec::with_capacity(alloc, lines.len())?;
+        for line in lines {
+            list.push(open(*line))?;
+        }
+        Ok(Peers { list })
+    }
+
+    /// How many servers there are.
+    pub fn len(&self) -> u32
+        ensures len { result ≡ length self.now }
+        ensures at_most { length self.now ≤ MAX_PEERS }
+    {
+        self.list.len() as u32
+    }
+
+    /// The reach register of a peer: a bit for each of the last eight requests, the newest in bit 0.
+    pub fn reach(&self, peer: u16) -> u8
+        requires { HasPeer self.now peer }
+        ensures { IfSome (peer_at self.now peer) (λ p. result ≡ p.reach) }
+    {
+        self.list[usize::from(peer) - 1].reach
+    }
+
+    /// The poll exponent of a peer's line: its requests are 2^poll seconds apart.
+    pub fn poll(&self, peer: u16) -> u8
+        requires { HasPeer self.now peer }
+        ensures { IfSome (peer_at self.now peer) (λ p. result ≡ p.line.poll) }
+    {
+        self.list[usize::from(peer) - 1].line.poll
+    }
+
+    /// The place of the first line with this address and port, or the end.
+    fn place(&self, from: &Addr) -> usize
+        ensures place { result ≡ place_for self.now from.now }
+        ensures within { result ≤ length self.now }
+    {
+        find_place(&self.list, from)
+    }
+
+    /// The association number of the first line with this address and port.
+    pub fn line_of(&self, from: &Addr) -> Option<u16>
+        ensures { result ≡ line_for self.now from.now }
+    {
+        let place = self.place(from);
+        if place < self.list.len() {
+            Some(place as u16 + 1)
+        } else {
+            None
+        }
+    }
+
+    /// The request to a peer that leaves it at the moment, by this clock. It is awaited from then on,
+    /// and the reach register is shifted left by one.
+    pub fn request_for(
+        &mut self,
+        peer: u16,
+        clock: &SoftClock,
+        keys: &KeyTable,
+        moment: u64,
+    ) -> Octets
+        requires { HasPeer self.old peer }
+        ensures request { IfSome (peer_at self.old peer) (λ p.
+            result ≡ request_of p.line keys.now (time_at clock.now moment)) }
+        ensures asked { IfSome (peer_at self.old peer) (λ p.
+            self.new ≡ slice_set self.old (peer - 1) (asked p (time_at clock.now moment))) }
+    {
+        let transmit = clock.at(moment);
+        let place = usize::from(peer) - 1;
+        let request = make_request(self.list[place].line, keys, transmit);
+        note_request(&mut self.list[place], transmit);
+        request
+    }
+
+    /// Judges a datagram that came at the moment, by this clock, and takes it where it is a reply
+    /// that tells the time.
+    pub fn take_reply(
+        &mut self,
+        from: &Addr,
+        bytes: &[u8],
+        keys: &KeyTable,
+        clock: &SoftClock,
+        moment: u64,
+    ) -> Result<TakenReply, ReplyFault>
+        ensures read { IsSome (line_for self.old from.now) → IsReadable keys.now bytes.now }
+        ensures answer { (reading : Option Reply) → IsRead keys.now bytes.now reading
+            → result ≡ answer_to self.old from.now reading (time_at clock.now moment) moment }
+        ensures after { (reading : Option Reply) → IsRead keys.now bytes.now reading
+            → self.new ≡ peers_after self.old from.now reading (time_at clock.now moment) moment }
+        ensures kept { IfErr result (λ fault. ends_waiting fault ≡ false → self.new ≡ self.old) }
+
+        // The two faults that no association decides.
+        ensures stranger { (result ≡ Err ReplyFault.NoSuchPeer)
+            ↔ (line_for self.old from.now ≡ None) }
+        ensures malformed { (result ≡ Err ReplyFault.Malformed)
+            ↔ (IsSome (line_for self.old from.now) × IsRead keys.now bytes.now None) }
+    {
+        let place = self.place(from);
+        if place >= self.list.len() {
+            return Err(ReplyFault::NoSuchPeer);
+        }
+        match read_reply(bytes, keys) {
+            None => Err(ReplyFault::Malformed),
+            Some(reply) => self.judge_at(place, &reply, clock, moment),
+        }
+    }
+
+    /// Judges a reply for the peer at a place.
+    fn judge_at(
+        &mut self,
+        place: usize,
+        reply: &Reply,
+        clock: &SoftClock,
+        moment: u64,
+    ) -> Result<TakenReply, ReplyFault>
+        requires { place < length self.old }
+        ensures answer { IfSome (slice_get self.old place) (λ p. result
+            ≡ answer_by (place + 1) (verdict_of p reply.now (time_at clock.now moment) moment)) }
+        ensures after { IfSome (slice_get self.old place) (λ p. self.new
+            ≡ slice_set self.old place (judged p reply.now (time_at clock.now moment) moment)) }
+        ensures kept { IfErr result (λ fault. ends_waiting fault ≡ false → self.new ≡ self.old) }
+        ensures decided { IfErr result IsDecided }
+    {
+        let verdict = judge(&mut self.list[place], reply, clock.at(moment), moment);
+        answer(place as u16 + 1, verdict)
+    }
+}
