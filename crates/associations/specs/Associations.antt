@@ -1,10 +1,23 @@
 -- What is kept of a server, and what a request to it changes (RFC 5905, sections 9.1 and 13; RFC 9327, section 3.2; the values before the first reply are our own rule).
-use Rattle.std.specs.Prelude.{ℕ, ◌+◌, ◌*◌, ◌%◌, ◌^◌, ◌==◌, ◌&&◌, min, pos, Bool, false, not, if◌then◌else◌, None, Some, codes}
+use Rattle.std.specs.Prelude.{ℕ, ◌≤◌, ◌+◌, ◌*◌, ◌%◌, ◌^◌, ◌==◌, ◌&&◌, min, pos, Bool, false, not, if◌then◌else◌, List, length, None, Some, codes}
+use Rattle.std.specs.List.{All}
 use Rattle.access_rules.specs.declared.servers.ServerLine.{ServerLine}
 use Rattle.clock_filter.specs.Filtering.{empty_state}
 use Rattle.fixed_time.specs.declared.time.Ntp64.{Ntp64}
 use Rattle.associations.specs.declared.association.Association.{Association}
 use Rattle.associations.specs.declared.association.TheConstants.{UNREACHABLE, MAX_EVENTS}
+use Rattle.associations.specs.declared.peers.TheConstants.{MAX_PEERS}
+
+-- the numbers of an association have the widths of its status word: the leap indicator two bits, events and code four
+pub record IsAssociation (p : Association) : Type 0 where
+  pub leap : p.leap ≤ 3
+  pub events : p.events ≤ MAX_EVENTS
+  pub code : p.code ≤ 15
+
+-- the associations of at most 32 servers
+pub record ArePeers (peers : List Association) : Type 0 where
+  pub few : length peers ≤ MAX_PEERS
+  pub each : All IsAssociation peers
 
 -- before its first reply: leap 3, stratum 16, refid INIT, an empty filter without an estimate, all else 0
 abbrev pub opened : ServerLine → Association

@@ -1,4 +1,5 @@
-ghost use Rattle.std.specs.Prelude.{◌≡◌, IfErr, false};
+ghost use Rattle.std.specs.Prelude.{◌≡◌, ◌≤◌, IfErr, false};
+ghost use Rattle.associations.specs.Associations.{IsAssociation};
 ghost use Rattle.associations.specs.Judging.{IsDecided, ends_waiting};
 ghost use Rattle.associations.specs.Accepting.{accepted, gives_estimate, is_fresh, is_good, judged, reach_after_reply, sampled, taken_over, told, verdict_of};
 
@@ -22,7 +23,8 @@ fn is_good(auth: Auth) -> bool
 
 /// Takes the header's fields over.
 fn take_header(of: &mut Association, reply: &Reply)
-    ensures { of.new ≡ told of.old reply.now }
+    ensures value { of.new ≡ told of.old reply.now }
+    ensures sound { reply.now.header.leap ≤ 3 → IsAssociation of.old → IsAssociation of.new }
 {
     let header = &reply.header;
     of.pmode = header.mode;
@@ -47,7 +49,8 @@ fn mark(reach: u8) -> u8
 
 /// Keeps that a reply came when our clock showed the destination timestamp.
 fn take_over(of: &mut Association, reply: &Reply, destination: Ntp64)
-    ensures { of.new ≡ taken_over of.old reply.now destination }
+    ensures value { of.new ≡ taken_over of.old reply.now destination }
+    ensures sound { reply.now.header.leap ≤ 3 → IsAssociation of.old → IsAssociation of.new }
 {
     let is_new = of.reach == 0;
     take_header(of, reply);
@@ -63,6 +66,7 @@ fn take_over(of: &mut Association, reply: &Reply, destination: Ntp64)
 fn put_sample(of: &mut Association, sample: Sample, moment: u64) -> bool
     ensures after { of.new ≡ sampled of.old sample moment }
     ensures fresh { result ≡ gives_estimate of.old.filter sample moment }
+    ensures sound { IsAssociation of.old → IsAssociation of.new }
 {
     let estimate = of.filter.put(sample, moment);
     of.estimate = estimate.or(of.estimate);
@@ -73,6 +77,7 @@ fn put_sample(of: &mut Association, sample: Sample, moment: u64) -> bool
 fn accept(of: &mut Association, reply: &Reply, destination: Ntp64, moment: u64) -> bool
     ensures after { of.new ≡ accepted of.old reply.now destination moment }
     ensures fresh { result ≡ is_fresh of.old reply.now destination moment }
+    ensures sound { reply.now.header.leap ≤ 3 → IsAssociation of.old → IsAssociation of.new }
 {
     let sample = measure(&reply.header, destination, moment);
     take_over(of, reply, destination);
@@ -90,6 +95,7 @@ pub(crate) fn judge(
     ensures after { of.new ≡ judged of.old reply.now destination moment }
     ensures kept { IfErr result (λ fault. ends_waiting fault ≡ false → of.new ≡ of.old) }
     ensures decided { IfErr result IsDecided }
+    ensures sound { reply.now.header.leap ≤ 3 → IsAssociation of.old → IsAssociation of.new }
 {
     match first_fault(of, reply) {
         Some(fault) => {

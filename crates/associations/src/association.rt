@@ -1,5 +1,5 @@
-ghost use Rattle.std.specs.Prelude.{◌≡◌};
-ghost use Rattle.associations.specs.Associations.{asked, opened, reach_after_request, runs_empty, with_event};
+ghost use Rattle.std.specs.Prelude.{◌≡◌, ◌≤◌};
+ghost use Rattle.associations.specs.Associations.{IsAssociation, asked, opened, reach_after_request, runs_empty, with_event};
 
 use access_rules::ServerLine;
 use clock_filter::{Estimate, Filter};
@@ -60,7 +60,8 @@ pub struct Association {
 
 /// The association of a server that was not asked yet.
 pub(crate) fn open(line: ServerLine) -> Association
-    ensures { result ≡ opened line }
+    ensures value { result ≡ opened line }
+    ensures sound { IsAssociation result }
 {
     Association {
         line,
@@ -87,7 +88,8 @@ pub(crate) fn open(line: ServerLine) -> Association
 
 /// Counts an event and keeps its code (RFC 9327, section 3.2).
 pub(crate) fn note_event(of: &mut Association, code: u8)
-    ensures { of.new ≡ with_event code of.old }
+    ensures value { of.new ≡ with_event code of.old }
+    ensures sound { code ≤ 15 → IsAssociation of.old → IsAssociation of.new }
 {
     of.code = code;
     of.events = of.events.saturating_add(1).min(MAX_EVENTS);
@@ -109,7 +111,8 @@ fn runs_empty(reach: u8) -> bool
 
 /// Keeps that a request went out with this transmit timestamp.
 pub(crate) fn note_request(of: &mut Association, transmit: Ntp64)
-    ensures { of.new ≡ asked of.old transmit }
+    ensures value { of.new ≡ asked of.old transmit }
+    ensures sound { IsAssociation of.old → IsAssociation of.new }
 {
     let is_lost = runs_empty(of.reach);
     of.pending = Some(transmit);

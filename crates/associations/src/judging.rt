@@ -1,4 +1,5 @@
 ghost use Rattle.std.specs.Prelude.{◌≡◌, IfSome, false};
+ghost use Rattle.associations.specs.Associations.{IsAssociation};
 ghost use Rattle.associations.specs.Judging.{IsDecided, ends_waiting, first_fault_of, is_awaited, is_bogus, is_by_key, is_duplicate, is_kiss, is_too_far, is_unproven, is_unsynchronised, refused, root_distance_of};
 
 use crate::association::Association;
@@ -144,6 +145,7 @@ fn ends_waiting(fault: ReplyFault) -> bool
 pub(crate) fn refuse(of: &mut Association, fault: ReplyFault)
     ensures value { of.new ≡ refused fault of.old }
     ensures kept { ends_waiting fault ≡ false → of.new ≡ of.old }
+    ensures sound { IsAssociation of.old → IsAssociation of.new }
 {
     if ends_waiting(fault) {
         of.pending = None;

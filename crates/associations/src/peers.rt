@@ -1,7 +1,7 @@
 ghost use Rattle.std.specs.Prelude.{◌≡◌, ◌+◌, ◌-◌, ◌≤◌, ◌<◌, ◌↔◌, Option, None, Err, false, length, map, slice_get, slice_set, IfErr, IfOk, IfSome, IsSome};
 ghost use Rattle.std.specs.List.{position};
 ghost use Rattle.associations.specs.Accepting.{judged, verdict_of};
-ghost use Rattle.associations.specs.Associations.{asked, opened};
+ghost use Rattle.associations.specs.Associations.{ArePeers, asked, opened};
 ghost use Rattle.associations.specs.Judging.{IsDecided, ends_waiting};
 ghost use Rattle.associations.specs.Replies.{IsRead};
 ghost use Rattle.associations.specs.Requests.{request_of};
@@ -38,14 +38,15 @@ pub struct Peers {
 }
 
 impl Model for Peers {
-    ghost use Rattle.std.specs.Prelude.{List, length, ◌≤◌};
+    ghost use Rattle.std.specs.Prelude.{List};
+    ghost use Rattle.associations.specs.Associations.{ArePeers};
     ghost use Rattle.associations.specs.declared.association.Association.{Association};
 
     ghost Value = { List Association };
 
     ghost view = { λ p. p.list.items };
 
-    ghost invariant = { λ p. length p.list.items ≤ 32 };
+    ghost invariant = { λ p. ArePeers p.list.items };
 }
 
 /// Whether two addresses and their ports are the same.
@@ -97,7 +98,7 @@ impl Peers {
     /// How many servers there are.
     pub fn len(&self) -> u32
         ensures len { result ≡ length self.now }
-        ensures at_most { length self.now ≤ MAX_PEERS }
+        ensures sound { ArePeers self.now }
     {
         self.list.len() as u32
     }
@@ -128,7 +129,8 @@ impl Peers {
 
     /// The association number of the first line with this address and port.
     pub fn line_of(&self, from: &Addr) -> Option<u16>
-        ensures { result ≡ line_for self.now from.now }
+        ensures value { result ≡ line_for self.now from.now }
+        ensures there { IfSome result (λ peer. HasPeer self.now peer) }
     {
         let place = self.place(from);
         if place < self.list.len() {
@@ -201,7 +203,8 @@ impl Peers {
         clock: &SoftClock,
         moment: u64,
     ) -> Result<TakenReply, ReplyFault>
-        requires { place < length self.old }
+        requires place { place < length self.old }
+        requires leap { reply.now.header.leap ≤ 3 }
         ensures answer { IfSome (slice_get self.old place) (λ p. result
             ≡ answer_by (place + 1) (verdict_of p reply.now (time_at clock.now moment) moment)) }
         ensures after { IfSome (slice_get self.old place) (λ p. self.new

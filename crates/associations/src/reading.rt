@@ -1,4 +1,4 @@
-ghost use Rattle.std.specs.Prelude.{◌≡◌, Option};
+ghost use Rattle.std.specs.Prelude.{◌≡◌, ◌≤◌, IfSome, Option};
 ghost use Rattle.associations.specs.Replies.{IsRead};
 
 use mac_keys::{Auth, KeyTable};
@@ -18,6 +18,7 @@ pub struct Reply {
 /// The reply that the octets are, where these keys are known; None where they are none.
 pub(crate) fn read_reply(bytes: &[u8], keys: &KeyTable) -> Option<Reply>
     ensures read { IsRead keys.now bytes.now result }
+    ensures leap { IfSome result (λ reply. reply.header.leap ≤ 3) }
     ensures only { (reading : Option Reply) → IsRead keys.now bytes.now reading → result ≡ reading }
 {
     match ntp_packet::read(bytes) {
