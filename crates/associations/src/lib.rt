@@ -13,6 +13,8 @@ pub mod judging;
 pub mod peers;
 pub mod reading;
 pub mod sampling;
+#[cfg(test)]
+mod tests;
 
 pub use access_rules::ServerLine;
 pub use association::Association;

@@ -1,10 +1,11 @@
-ghost use Rattle.std.specs.Prelude.{◌≡◌, ◌+◌, ◌-◌, ◌≤◌, ◌<◌, ◌↔◌, Option, None, Err, false, length, map, slice_get, slice_set, IfErr, IfOk, IfSome, IsSome};
+ghost use Rattle.std.specs.Prelude.{◌≡◌, ◌+◌, ◌-◌, ◌≤◌, ◌<◌, ◌↔◌, Option, None, Some, Err, false, length, map, slice_get, slice_set, IfErr, IfOk, IfSome, IsSome};
 ghost use Rattle.std.specs.List.{position};
 ghost use Rattle.associations.specs.Accepting.{judged, verdict_of};
 ghost use Rattle.associations.specs.Associations.{ArePeers, asked, opened};
 ghost use Rattle.associations.specs.Judging.{IsDecided, ends_waiting};
 ghost use Rattle.associations.specs.Replies.{IsRead};
-ghost use Rattle.associations.specs.Requests.{request_of};
+ghost use Rattle.associations.specs.Requests.{request_header, request_of};
+ghost use Rattle.ntp_packet.specs.Packet.{IsPacket};
 ghost use Rattle.associations.specs.Taking.{HasPeer, IsReadable, answer_by, answer_to, line_for, peer_at, peers_after, place_for, same_addr, time_at};
 
 use crate::accepting::judge;
@@ -34,7 +35,7 @@ pub struct TakenReply {
 /// The associations of the servers, in the order of their lines. Association numbers count from 1.
 #[derive(Drop)]
 pub struct Peers {
-    list: Vec<Association>,
+    pub(crate) list: Vec<Association>,
 }
 
 impl Model for Peers {
@@ -75,6 +76,7 @@ fn find_place(list: &[Association], from: &Addr) -> usize
 fn answer(peer: u16, verdict: Result<bool, ReplyFault>) -> Result<TakenReply, ReplyFault>
     ensures value { result ≡ answer_by peer verdict }
     ensures fault { IfErr result (λ fault. verdict ≡ Err fault) }
+    ensures by { IfOk result (λ taken. taken.peer ≡ peer) }
 {
     match verdict {
         Ok(fresh) => Ok(TakenReply { peer, fresh }),
@@ -154,6 +156,9 @@ impl Peers {
             result ≡ request_of p.line keys.now (time_at clock.now moment)) }
         ensures asked { IfSome (peer_at self.old peer) (λ p.
             self.new ≡ slice_set self.old (peer - 1) (asked p (time_at clock.now moment))) }
+        ensures packet { IfSome (peer_at self.old peer) (λ p.
+            IsPacket result (request_header p.line (time_at clock.now moment))) }
+        ensures len { length self.new ≡ length self.old }
     {
         let transmit = clock.at(moment);
         let place = usize::from(peer) - 1;
@@ -178,6 +183,8 @@ impl Peers {
         ensures after { (reading : Option Reply) → IsRead keys.now bytes.now reading
             → self.new ≡ peers_after self.old from.now reading (time_at clock.now moment) moment }
         ensures kept { IfErr result (λ fault. ends_waiting fault ≡ false → self.new ≡ self.old) }
+        ensures by { IfOk result (λ taken. line_for self.old from.now ≡ Some taken.peer) }
+        ensures len { length self.new ≡ length self.old }
 
         // The two faults that no association decides.
         ensures stranger { (result ≡ Err ReplyFault.NoSuchPeer)
@@ -211,6 +218,8 @@ impl Peers {
             ≡ slice_set self.old place (judged p reply.now (time_at clock.now moment) moment)) }
         ensures kept { IfErr result (λ fault. ends_waiting fault ≡ false → self.new ≡ self.old) }
         ensures decided { IfErr result IsDecided }
+        ensures by { IfOk result (λ taken. taken.peer ≡ place + 1) }
+        ensures len { length self.new ≡ length self.old }
     {
         let verdict = judge(&mut self.list[place], reply, clock.at(moment), moment);
         answer(place as u16 + 1, verdict)
