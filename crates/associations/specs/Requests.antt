@@ -1,4 +1,4 @@
--- A request to a server (RFC 5905, sections 7.3 and 9.2; that all but its transmit timestamp is the same each time is our own rule).
+-- A request to a server (RFC 5905, sections 7.3 and 13.2; that it tells nothing of our clock but the transmit timestamp and the precision is our own rule).
 use Rattle.std.specs.Prelude.{ℕ, ◌==◌, if◌then◌else◌, List, [], ◌++◌, replicate, Option, None, Some, pos}
 use Rattle.access_rules.specs.declared.servers.ServerLine.{ServerLine}
 use Rattle.fixed_time.specs.declared.time.Ntp64.{Ntp64}

@@ -105,7 +105,8 @@ impl Peers {
         self.list.len() as u32
     }
 
-    /// The reach register of a peer: a bit for each of the last eight requests, the newest in bit 0.
+    /// The reach register of a peer: a bit for each of the last eight requests, the newest being
+    /// bit 0.
     pub fn reach(&self, peer: u16) -> u8
         requires { HasPeer self.now peer }
         ensures { IfSome (peer_at self.now peer) (λ p. result ≡ p.reach) }
@@ -142,8 +143,9 @@ impl Peers {
         }
     }
 
-    /// The request to a peer that leaves it at the moment, by this clock. It is awaited from then on,
-    /// and the reach register is shifted left by one.
+    /// The request to a peer that goes out at the moment, by this clock. Its reply is awaited from
+    /// then on, and the reach register is shifted left by one (RFC 5905, section 13.2). Takes no
+    /// memory.
     pub fn request_for(
         &mut self,
         peer: u16,
@@ -168,7 +170,10 @@ impl Peers {
     }
 
     /// Judges a datagram that came at the moment, by this clock, and takes it where it is a reply
-    /// that tells the time.
+    /// that tells the time (RFC 5905, sections 8 and 9.2). Takes no memory.
+    ///
+    /// The faults are tested in the order of `ReplyFault`. After `BadAuth`, `Kiss`,
+    /// `Unsynchronised` and `TooFar` no reply is awaited any more; nothing else changes by a fault.
     pub fn take_reply(
         &mut self,
         from: &Addr,

@@ -30,7 +30,8 @@ const CLOCK: SoftClock = SoftClock {
 
 /// The header of a request at one second past that origin.
 const REQUEST: &[u8; 48] = b"\x23\x00\x06\xec\x00\x00\x00\x00\x00\x00\x00\x00\x00\x00\x00\x00\
-    \x00\x00\x00\x00\x00\x00\x00\x00\x00\x00\x00\x00\x00\x00\x00\x00\x00\x00\x00\x00\x00\x00\x00\x00\
+    \x00\x00\x00\x00\x00\x00\x00\x00\x00\x00\x00\x00\x00\x00\x00\x00\
+    \x00\x00\x00\x00\x00\x00\x00\x00\
     \x83\xaa\x7e\x81\x00\x00\x00\x00";
 
 /// A reply to it of a server of stratum 2, which took and answered it at two seconds past.
@@ -65,8 +66,8 @@ fn ask(peers: &mut Peers, clock: &SoftClock, keys: &KeyTable, moment: u64) -> Op
     Some(peers.request_for(1, clock, keys, moment))
 }
 
-/// What a datagram changes of the first association, but for its samples: the time awaited, the reach
-/// register, events and code, the stratum, the last transmit and destination timestamps.
+/// What a datagram changes of the first association, but for its samples: the time awaited, the
+/// reach register, events and code, the stratum, the last transmit and destination timestamps.
 fn shown(peers: &Peers) -> Option<(Option<u64>, u8, (u8, u8), u8, u64, u64)> {
     let p = peers.list.first()?;
     Some((
