@@ -1,8 +1,9 @@
 -- What the lines read so far make, and what the whole file means: our own rule.
 use Rattle.std.specs.Prelude.{◌≡◌, ℕ, ◌*◌, ◌^◌, ◌==◌, ◌&&◌, nat_le, if◌then◌else◌, Bool, false, List, [], ◌∷◌, ◌++◌, length, Option, Some, None, is_some, is_none}
-use Rattle.std.specs.Option.{option_and_then, unwrap_or}
+use Rattle.std.specs.Option.{option_and_then, option_map, unwrap_or}
 use Rattle.net_addr.specs.declared.addr.Addr.{Addr}
 use Rattle.net_addr.specs.declared.prefix.Prefix.{Prefix}
+use Rattle.access_rules.specs.Rates.{plain_rate}
 use Rattle.access_rules.specs.Rules.{AreWholes, flags_at, rules_with}
 use Rattle.access_rules.specs.declared.rate.Rate.{Rate}
 use Rattle.access_rules.specs.declared.rules.Rule.{Rule}
@@ -72,12 +73,12 @@ kind_of_line (line.Keys name) = kind.Keys
 kind_of_line (line.Local stratum) = kind.Local
 kind_of_line (line.Frequency frequency) = kind.Frequency
 
--- the rate limit of these options: an average of 60 a minute, bursts of 20, and 2 seconds, where nothing else is said
+-- the rate limit of these options: the plain one, where nothing else is said
 abbrev pub rate_of : RateOptions → Rate
 rate_of given = record {
-  average = unwrap_or given.average 60;
-  burst = unwrap_or given.burst 20;
-  spacing = unwrap_or given.spacing 2 * 2 ^ 32;
+  average = unwrap_or given.average plain_rate.average;
+  burst = unwrap_or given.burst plain_rate.burst;
+  spacing = unwrap_or (option_map (λ seconds. seconds * 2 ^ 32) given.spacing) plain_rate.spacing;
 }
 
 -- the limits of the client list that these options ask for: 600 to 1,024 rows and 64 to 3,600 seconds, where nothing else

@@ -1,4 +1,5 @@
 ghost use Rattle.std.specs.Prelude.{◌≡◌, ◌↔◌, ◌*◌, ◌^◌, false, Err, Some, None, IsSome, IfSome, IfOk, IfErr, OnOk};
+ghost use Rattle.std.specs.Option.{option_map, unwrap_or};
 ghost use Rattle.conf_file.specs.Drafts.{DoFit, IsLimitsOf, IsOpening, IsTakenInto, IsUntaken, is_closed, kind_of_line, rate_of, restricted, rules_after, untaken_of};
 ghost use Rattle.access_rules.specs.declared.rules.RuleFault.TheVariants.{Full};
 
@@ -151,10 +152,21 @@ fn why_untaken(fault: RuleFault) -> Untaken
 pub fn rate_with(given: &RateOptions) -> Rate
     ensures { result ≡ rate_of given.now }
 {
+    let plain = Rate::plain();
     Rate {
-        average: given.average.unwrap_or(60),
-        burst: given.burst.unwrap_or(20),
-        spacing: u64::from(given.spacing.unwrap_or(2)) << 32,
+        average: given.average.unwrap_or(plain.average),
+        burst: given.burst.unwrap_or(plain.burst),
+        spacing: spacing_with(given.spacing, plain.spacing),
+    }
+}
+
+/// The time between two kiss codes: so many seconds, or else this one, in 32.32 seconds.
+fn spacing_with(seconds: Option<u32>, plain: u64) -> u64
+    ensures { result ≡ unwrap_or (option_map (λ n. n * 2 ^ 32) seconds) plain }
+{
+    match seconds {
+        Some(seconds) => u64::from(seconds) << 32,
+        None => plain,
     }
 }
 
