@@ -35,11 +35,12 @@ opening_system = record {
   code_in = lit≤ tt;
 }
 
--- the first record of a server over these rules: that system, the plain rate, and a clock that counts from the origin
+-- the first record of a server over these rules: that system, no peers, the plain rate, and a clock that counts from the origin
 abbrev pub opening_record : Ntp64 → List Rule → Record
 opening_record origin rules = record {
   epoch = 0;
   system = opening_system;
+  peers = [];
   rules = rules;
   rate = plain_rate;
   clock = record { base = 0; ntp = origin; freq = pos 0; slew = pos 0 };

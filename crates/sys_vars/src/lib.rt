@@ -1,7 +1,7 @@
-//! What a server publishes of itself: the system's values and its clock, as one record; and its
-//! answers to control requests for system variables (RFC 9327).
+//! What a server publishes of itself: the system's values, those of its peers and its clock, as one
+//! record; and its answers to control requests for system variables (RFC 9327).
 //!
-//! Layer 4. Stands on: `access_rules`, `discipline`, `mode6_frame`, `edge_traits`, `net_addr`, `fixed_time`.
+//! Layer 4. Stands on: `access_rules`, `clock_filter`, `discipline`, `mode6_frame`, `edge_traits`, `net_addr`, `fixed_time`.
 //! Promises: a server opens with one record, given by its values; an answer is a function of one
 //! record and the request, and comes unless memory is wanting.
 #![tactic(auto)]
@@ -11,6 +11,8 @@ pub mod answering;
 pub mod asked;
 pub mod context;
 pub mod names;
+pub mod peer_view;
+pub mod peer_views;
 pub mod published;
 mod refid_text;
 pub mod status;
@@ -22,7 +24,9 @@ pub use answering::{BAD_ASSOCIATION, BAD_FORMAT, BAD_NAME, BAD_OPERATION};
 pub use asked::{Asked, MAX_NAMES, NameNumbers, What};
 pub use context::Context;
 pub use names::{UNKNOWN_NAME, name_number};
+pub use peer_view::PeerView;
+pub use peer_views::{MAX_PEERS, PeerViews};
 pub use published::Record;
-pub use status::system_status;
+pub use status::{peer_status, system_status};
 pub use system::System;
 pub use variables::{VarsFault, items};

@@ -1,19 +1,23 @@
 ghost use Rattle.std.specs.Prelude.{◌≡◌, IfOk};
 ghost use Rattle.sys_vars.specs.Opening.{IsOpening, opening_system};
 
+use crate::peer_views::PeerViews;
 use crate::system::System;
 use access_rules::{Rate, Rules};
 use discipline::{SoftClock, State};
 use fixed_time::{Ntp64, Span};
 use std::alloc::{AllocError, Global};
 
-/// What a server publishes: the values of the system and its clock, of one moment, and who may ask.
+/// What a server publishes: the values of the system, of its peers and of its clock, of one moment,
+/// and who may ask.
 #[derive(Drop)]
 pub struct Record {
     /// The number of the publication.
     pub epoch: u64,
     /// The values of the system.
     pub system: System,
+    /// The values of the servers that it asks.
+    pub peers: PeerViews,
     /// Who may ask for what.
     pub rules: Rules,
     /// How often a client may ask that the rules limit.
@@ -24,7 +28,7 @@ pub struct Record {
 
 impl Record {
     /// What a server publishes before it knows the time: it is not synchronized, and its clock begins
-    /// at the origin. Its rules refuse nobody.
+    /// at the origin. It has no peers, and its rules refuse nobody.
     pub fn opening(alloc: Global, origin: Ntp64) -> Result<Record, AllocError>
         ensures { IfOk result (IsOpening origin) }
     {
@@ -32,6 +36,7 @@ impl Record {
         Ok(Record {
             epoch: 0,
             system: opening_system(),
+            peers: PeerViews::of(Vec::new(alloc)),
             rules,
             rate: Rate::plain(),
             clock: SoftClock {
@@ -40,6 +45,22 @@ impl Record {
                 freq: 0,
                 slew: 0,
             },
+        })
+    }
+
+    /// The same record once more.
+    pub fn copy(&self) -> Result<Record, AllocError>
+        ensures { IfOk result (λ rec. rec ≡ self.now) }
+    {
+        let peers = self.peers.copy()?;
+        let rules = self.rules.copy()?;
+        Ok(Record {
+            epoch: self.epoch,
+            system: self.system,
+            peers,
+            rules,
+            rate: self.rate,
+            clock: self.clock,
         })
     }
 }

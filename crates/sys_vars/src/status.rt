@@ -1,6 +1,7 @@
 ghost use Rattle.std.specs.Prelude.{◌≡◌, ◌+◌, ◌*◌, ◌^◌, ◌≤◌};
-ghost use Rattle.sys_vars.specs.Status.{system_status_of};
+ghost use Rattle.sys_vars.specs.Status.{bit_where, peer_status_of, system_status_of};
 
+use crate::peer_view::PeerView;
 use crate::system::System;
 
 /// The system status word (RFC 9327, section 3.1): of 16 bits, the leap indicator has 2, the clock
@@ -22,6 +23,34 @@ fn status_word(leap: u8, source: u8, events: u8, code: u8) -> u16
         + u16::from(source) * (1 << 8)
         + u16::from(events) * (1 << 4)
         + u16::from(code)
+}
+
+/// The peer status word (RFC 9327, section 3.2): of 16 bits, the status has 5, the selection 3, the
+/// event counter 4 and the event code 4.
+pub fn peer_status(p: &PeerView) -> u16
+    ensures { result ≡ peer_status_of p.now }
+{
+    (1 << 15)
+        + bit_where(p.key != 0, 14)
+        + bit_where(p.auth_ok, 13)
+        + bit_where(p.reach != 0, 12)
+        + low_bits(p.selection, p.events, p.code)
+}
+
+fn bit_where(is_set: bool, bit: u8) -> u16
+    requires { bit ≤ 15 }
+    ensures { result ≡ bit_where is_set bit }
+{
+    if is_set { 1 << bit } else { 0 }
+}
+
+fn low_bits(selection: u8, events: u8, code: u8) -> u16
+    requires selection { selection ≤ 7 }
+    requires events { events ≤ 15 }
+    requires code { code ≤ 15 }
+    ensures { result ≡ selection * 2 ^ 8 + events * 2 ^ 4 + code }
+{
+    u16::from(selection) * (1 << 8) + u16::from(events) * (1 << 4) + u16::from(code)
 }
 
 #[cfg(test)]
