@@ -1,5 +1,5 @@
 -- What a server publishes before it knows the time: our own rule, after RFC 5905, sections 7.3 and 11.1.
-use Rattle.std.specs.Prelude.{◌≡◌, ◌*◌, ◌^◌, List, codes, pos, negsuc}
+use Rattle.std.specs.Prelude.{◌≡◌, ◌*◌, ◌^◌, List, [], codes, pos, negsuc}
 use Rattle.std.proofs.Common.{lit≤}
 use Rattle.access_rules.specs.Rates.{plain_rate}
 use Rattle.access_rules.specs.Rules.{IsPlain}
