@@ -6,3 +6,4 @@ mod Overlaps
 mod Ranks
 pub mod SelectingLemmas
 mod StandardFacts
+pub mod SurvivorLemmas

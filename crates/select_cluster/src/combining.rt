@@ -1,5 +1,6 @@
-ghost use Rattle.std.specs.Prelude.{◌≡◌, ◌*◌, ◌-◌, ◌^◌, ◌<◌, ◌≤◌, ◌*ℤ◌, ◌≤ℤ◌, FitsSigned, length, neg_ℤ, pos, sum_by};
+ghost use Rattle.std.specs.Prelude.{◌≡◌, ◌*◌, ◌-◌, ◌^◌, ◌<◌, ◌≤◌, ◌*ℤ◌, ◌≤ℤ◌, Contains, FitsSigned, length, neg_ℤ, pos, sum_by};
 ghost use Rattle.std.specs.Int.{w128};
+ghost use Rattle.fixed_time.specs.declared.apart.TheConstants.{CAP};
 ghost use Rattle.select_cluster.specs.Combining.{combined_jitter, combined_offset, system_peer, weight_of, weighted};
 
 use crate::candidates::{Candidate, MAX_CANDIDATES};
@@ -77,7 +78,8 @@ fn mean_offset(c: &[Candidate]) -> Span
 fn mean_jitter(c: &[Candidate]) -> u64
     requires some { 0 < length c.now }
     requires few { length c.now ≤ MAX_CANDIDATES }
-    ensures { result ≡ combined_jitter c.now }
+    ensures value { result ≡ combined_jitter c.now }
+    ensures capped { result ≤ CAP }
 {
     isqrt(sum_squares(c[0].offset, c) / c.len() as u128)
 }
@@ -88,6 +90,8 @@ pub fn combine(s: &Survivors) -> Combined
     ensures offset { result.offset.0 ≡ combined_offset s.now }
     ensures jitter { result.jitter ≡ combined_jitter s.now }
     ensures system { result.system ≡ system_peer s.now }
+    ensures capped { result.jitter ≤ CAP }
+    ensures member { (first : Candidate) × Contains s.now first × (first.peer ≡ result.system) }
 {
     let survivors = s.as_slice();
     Combined {
