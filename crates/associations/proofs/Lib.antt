@@ -1,3 +1,6 @@
+pub mod ChoosingLemmas
+pub mod NumberLemmas
 pub mod ReadingLemmas
+pub mod ShowingLemmas
 pub mod TakingLemmas
 mod WorkedFacts

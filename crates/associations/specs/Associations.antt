@@ -6,11 +6,13 @@ use Rattle.clock_filter.specs.Filtering.{empty_state}
 use Rattle.fixed_time.specs.declared.time.Ntp64.{Ntp64}
 use Rattle.associations.specs.declared.association.Association.{Association}
 use Rattle.associations.specs.declared.association.TheConstants.{UNREACHABLE, MAX_EVENTS}
-use Rattle.associations.specs.declared.peers.TheConstants.{MAX_PEERS}
+use Rattle.sys_vars.specs.declared.peer_views.TheConstants.{MAX_PEERS}
 
--- the numbers of an association have the widths of its status word: the leap indicator two bits, events and code four
+-- the numbers of an association have the widths of its status word: the leap indicator two bits, the selection code three, events and code four; its stratum is at most that of a clock that is not synchronized
 pub record IsAssociation (p : Association) : Type 0 where
   pub leap : p.leap ≤ 3
+  pub stratum : p.stratum ≤ 16
+  pub selection : p.selection ≤ 7
   pub events : p.events ≤ MAX_EVENTS
   pub code : p.code ≤ 15
 
@@ -39,6 +41,7 @@ opened line = record {
   auth_ok = false;
   filter = empty_state;
   estimate = None;
+  selection = 0;
   events = 0;
   code = 0;
 }

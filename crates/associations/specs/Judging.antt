@@ -1,5 +1,5 @@
 -- Which replies are refused, and why (RFC 5905, sections 7.4, 8 and 9.2; the order of the tests, and what a refusal leaves, are our own rules).
-use Rattle.std.specs.Prelude.{ℕ, ◌≢◌, ◌+◌, ◌*◌, ◌/◌, ◌^◌, ◌==◌, ◌&&◌, ◌||◌, nat_le, nat_lt, Bool, false, true, not, if◌then◌else◌, Option, None, Some}
+use Rattle.std.specs.Prelude.{ℕ, ◌≢◌, ◌≤◌, ◌+◌, ◌*◌, ◌/◌, ◌^◌, ◌==◌, ◌&&◌, ◌||◌, nat_le, nat_lt, Bool, false, true, not, if◌then◌else◌, Option, None, Some}
 use Rattle.fixed_time.specs.declared.time.Ntp64.{Ntp64}
 use Rattle.fixed_time.specs.declared.time.Short.{Short}
 use Rattle.fixed_time.specs.declared.time.TheConstants.{MAX_DISPERSION}
@@ -60,6 +60,11 @@ first_fault_of p reply =
     else (if is_unsynchronised reply then Some Unsynchronised
     else (if is_too_far reply then Some TooFar
     else None)))))
+
+-- the leap indicator and the stratum of a server that tells the time
+pub record IsTellable (reply : Reply) : Type 0 where
+  pub leap : reply.header.leap ≤ 3
+  pub stratum : reply.header.stratum ≤ MAX_SYNCHRONISED
 
 -- a fault that the association decides: the first two come before it is looked at
 abbrev pub IsDecided : ReplyFault → Type 0

@@ -5,3 +5,8 @@ pub mod Judging
 pub mod Samples
 pub mod Accepting
 pub mod Taking
+pub mod Showing
+pub mod Candidates
+pub mod Choices
+pub mod Systems
+pub mod Settling

@@ -52,6 +52,8 @@ pub struct Association {
     pub filter: Filter,
     /// What they told last, if they did.
     pub estimate: Option<Estimate>,
+    /// What the last selection made of it (RFC 9327, section 3.2, table 6).
+    pub selection: u8,
     /// How many events came, at most 15.
     pub events: u8,
     /// The code of the last event.
@@ -81,6 +83,7 @@ pub(crate) fn open(line: ServerLine) -> Association
         auth_ok: false,
         filter: Filter::new(),
         estimate: None,
+        selection: 0,
         events: 0,
         code: 0,
     }

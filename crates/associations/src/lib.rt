@@ -1,18 +1,24 @@
-//! Associations: one a server of the configuration. Requests go out to it, and its replies become
-//! samples of the clock (RFC 5905, sections 8 and 9).
+//! Associations: one a server of the configuration. Requests go out to it, its replies become samples
+//! of the clock, and these the values of the system (RFC 5905, sections 8, 9 and 11).
 //!
-//! Layer 4. Stands on: `ntp_trailer`, `ntp_packet`, `mac_keys`, `clock_filter`, `discipline`, `access_rules`, `edge_traits`, `net_addr`, `fixed_time`.
+//! Layer 4. Stands on: `sys_vars`, `ntp_trailer`, `ntp_packet`, `mac_keys`, `clock_filter`, `select_cluster`, `discipline`, `access_rules`, `edge_traits`, `net_addr`, `fixed_time`.
 //! Promises: a reply is refused for the first fault in one written order, and by that alone; an
-//! accepted one gives the written sample; after the first call none takes memory.
+//! accepted one gives the written sample; candidates, selection codes and the system's new values are
+//! those of one written definition; but for the first call and the views none takes memory.
 #![tactic(auto)]
 
 pub mod accepting;
 pub mod asking;
 pub mod association;
+pub mod candidates;
+pub mod choosing;
 pub mod judging;
 pub mod peers;
 pub mod reading;
 pub mod sampling;
+mod settling;
+pub mod showing;
+pub mod systems;
 #[cfg(test)]
 mod tests;
 

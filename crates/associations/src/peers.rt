@@ -5,6 +5,8 @@ ghost use Rattle.associations.specs.Associations.{ArePeers, asked, opened};
 ghost use Rattle.associations.specs.Judging.{IsDecided, ends_waiting};
 ghost use Rattle.associations.specs.Replies.{IsRead};
 ghost use Rattle.associations.specs.Requests.{request_header, request_of};
+ghost use Rattle.associations.specs.Settling.{IsSettled};
+ghost use Rattle.associations.specs.Showing.{AreViews};
 ghost use Rattle.ntp_packet.specs.Packet.{IsPacket};
 ghost use Rattle.associations.specs.Taking.{HasPeer, IsReadable, answer_by, answer_to, line_for, peer_at, peers_after, place_for, same_addr, time_at};
 
@@ -13,16 +15,17 @@ use crate::asking::make_request;
 use crate::association::{Association, note_request, open};
 use crate::judging::ReplyFault;
 use crate::reading::{Reply, read_reply};
+use crate::settling::settle_all;
+use crate::showing::view_all;
 use access_rules::ServerLine;
-use discipline::SoftClock;
+use discipline::{Loop, SoftClock};
 use edge_traits::Octets;
 use mac_keys::KeyTable;
 use net_addr::{Addr, same_ip};
 use std::alloc::{AllocError, Global};
 use std::marker::Model;
-
-/// The most servers.
-pub const MAX_PEERS: usize = 32;
+pub use sys_vars::MAX_PEERS;
+use sys_vars::{PeerViews, System};
 
 /// A reply that was accepted: the association number of its server, and whether the clock filter
 /// gave a new estimate.
@@ -205,6 +208,26 @@ impl Peers {
             None => Err(ReplyFault::Malformed),
             Some(reply) => self.judge_at(place, &reply, clock, moment),
         }
+    }
+
+    /// Selects, clusters and combines after a fresh reply of a peer, and gives the combined offset to
+    /// the discipline where that peer is the system peer (RFC 5905, section 11). The system's new
+    /// values are answered. A step of the clock has all peers forget their samples. Takes no memory.
+    pub fn settle(&mut self, peer: u16, engine: &mut Loop, old: &System, moment: u64) -> System
+        requires { HasPeer self.old peer }
+        ensures settled { IfSome (peer_at self.old peer) (λ p.
+            IsSettled self.old p peer engine.old old.now moment self.new engine.new result) }
+        ensures len { length self.new ≡ length self.old }
+    {
+        settle_all(&mut self.list, peer, engine, old, moment)
+    }
+
+    /// What is published of the peers, in the order of their association numbers.
+    pub fn views(&self) -> Result<PeerViews, AllocError>
+        ensures { IfOk result (λ views. AreViews self.now views) }
+    {
+        let views = view_all(*self.list.allocator(), &self.list)?;
+        Ok(PeerViews::of(views))
     }
 
     /// Judges a reply for the peer at a place.

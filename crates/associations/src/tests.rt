@@ -11,6 +11,8 @@ use net_addr::{Addr, Ip};
 use std::alloc::{AllocError, Global};
 use std::test::Fail;
 
+mod settling;
+
 /// A second, in 32.32.
 const SECOND: u64 = 1 << 32;
 

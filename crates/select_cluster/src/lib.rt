@@ -15,4 +15,4 @@ pub mod selection;
 pub use candidates::{Candidate, MAX_CANDIDATES};
 pub use clustering::{Survivors, cluster};
 pub use combining::{Combined, combine};
-pub use selection::{Interval, select};
+pub use selection::{Interval, is_inside, select};

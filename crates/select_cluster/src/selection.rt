@@ -15,7 +15,7 @@ pub struct Interval {
 }
 
 /// Whether the candidate's offset is inside.
-pub(crate) fn is_inside(c: Candidate, i: Interval) -> bool
+pub fn is_inside(c: Candidate, i: Interval) -> bool
     ensures { result ≡ inside i.lo i.hi c }
 {
     let offset = i128::from(c.offset.0);

@@ -1,0 +1,133 @@
+-- What a settle makes of the system's values (RFC 5905, section 11.2.3 and appendix A.5.5.5; RFC 9327, section 3.1; which values each case keeps is our own rule).
+use Rattle.std.specs.Prelude.{ℕ, ℤ, ◌+◌, ◌==◌, if◌then◌else◌, min, take, unsigned_abs, List, codes}
+use Rattle.discipline.specs.declared.feedback.Change.{Change}
+use Rattle.discipline.specs.declared.feedback.Change.TheVariants.{Ignored, Adjusted, Stepped, Panic}
+use Rattle.discipline.specs.declared.soft_clock.SoftClock.{SoftClock}
+use Rattle.discipline.specs.declared.state.State.{State}
+use Rattle.discipline.specs.declared.state.State.TheVariants.{Nset, Fset, Spik, Freq, Sync}
+use Rattle.discipline.specs.Feedback.{LoopState}
+use Rattle.fixed_time.specs.declared.time.Ntp64.{Ntp64}
+use Rattle.fixed_time.specs.declared.time.Span.{Span}
+use Rattle.fixed_time.specs.declared.time.TheConstants.{MAX_DISPERSION}
+use Rattle.md5.specs.Md5.{md5}
+use Rattle.net_addr.specs.declared.addr.Ip.{Ip}
+use Rattle.net_addr.specs.declared.addr.Ip.TheVariants.{V4, V6}
+use Rattle.select_cluster.specs.declared.combining.Combined.{Combined}
+use Rattle.sys_vars.specs.declared.system.System.{System}
+use Rattle.associations.specs.Showing.{estimate_shown}
+use Rattle.associations.specs.Taking.{time_at}
+use Rattle.associations.specs.declared.association.Association.{Association}
+use Rattle.associations.specs.declared.association.TheConstants.{MAX_EVENTS}
+use Rattle.associations.specs.declared.judging.TheConstants.{LEAP_UNKNOWN, MAX_SYNCHRONISED}
+use Rattle.associations.specs.declared.systems.TheConstants.{NO_SOURCE, NO_STRATUM, NO_SYSTEM_PEER, PANIC_STOP, UDP_NTP}
+
+-- the values of a system, without what is known of their widths
+pub record SystemValues : Type 0 where
+  pub leap : ℕ
+  pub stratum : ℕ
+  pub precision : ℤ
+  pub root_delay : ℕ
+  pub root_disp : ℕ
+  pub refid : List ℕ
+  pub reference : Ntp64
+  pub at : ℕ
+  pub peer : ℕ
+  pub poll : ℕ
+  pub offset : Span
+  pub freq : ℤ
+  pub jitter : ℕ
+  pub state : State
+  pub source : ℕ
+  pub events : ℕ
+  pub code : ℕ
+
+abbrev pub values_of : System → SystemValues
+values_of s = record {
+  leap = s.leap;
+  stratum = s.stratum;
+  precision = s.precision;
+  root_delay = s.root_delay;
+  root_disp = s.root_disp;
+  refid = s.refid;
+  reference = s.reference;
+  at = s.at;
+  peer = s.peer;
+  poll = s.poll;
+  offset = s.offset;
+  freq = s.freq;
+  jitter = s.jitter;
+  state = s.state;
+  source = s.source;
+  events = s.events;
+  code = s.code;
+}
+
+-- after an event: its code is the last one, and events are counted up to 15
+abbrev pub system_event : ℕ → SystemValues → SystemValues
+system_event code old = record old { events = min (old.events + 1) MAX_EVENTS; code = code }
+
+-- the code of the event that the discipline enters a state (table 4)
+abbrev pub event_of : State → ℕ
+event_of Nset = 1
+event_of Fset = 2
+event_of Spik = 3
+event_of Freq = 4
+event_of Sync = 5
+
+-- the discipline is in this state, which is an event where it was in another
+abbrev pub in_state : State → SystemValues → SystemValues
+in_state state old =
+    if event_of state == event_of old.state then old else system_event (event_of state) (record old { state = state })
+
+-- no majority: there is no system peer, and nothing else changes
+abbrev pub unselected : SystemValues → SystemValues
+unselected old = system_event NO_SYSTEM_PEER (record old { peer = 0 })
+
+-- the leap indicator that comes from a server: below one of stratum 15 no clock is synchronized
+abbrev pub leap_below : Association → ℕ
+leap_below p = if p.stratum == MAX_SYNCHRONISED then LEAP_UNKNOWN else p.leap
+
+-- the reference identifier of a server: its IPv4 address, or the first four octets of the MD5 digest of its IPv6 address (RFC 5905, section 7.3)
+abbrev pub refid_of : Ip → List ℕ
+refid_of (V4 octets) = octets
+refid_of (V6 octets) = take 4 (md5 octets)
+
+-- the values that come from the system peer and from what the survivors combine to, by the clock at a moment
+abbrev pub adjusted : Association → Combined → SoftClock → ℕ → SystemValues → SystemValues
+adjusted p combined clock moment old = record old {
+  leap = leap_below p;
+  stratum = p.stratum + 1;
+  root_delay = p.root_delay + (estimate_shown p.estimate).delay;
+  root_disp = p.root_disp + (estimate_shown p.estimate).disp + unsigned_abs combined.offset.0 + combined.jitter;
+  refid = refid_of p.line.addr.ip;
+  reference = time_at clock moment;
+  at = moment;
+  peer = combined.system;
+  poll = p.line.poll;
+  offset = combined.offset;
+  freq = clock.freq;
+  jitter = combined.jitter;
+  source = UDP_NTP;
+}
+
+-- the clock was stepped: it is not synchronized until it is measured again; peer, offset, jitter and poll stay
+abbrev pub stepped : SoftClock → ℕ → SystemValues → SystemValues
+stepped clock moment old = record old {
+  leap = LEAP_UNKNOWN;
+  stratum = NO_STRATUM;
+  root_delay = 0;
+  root_disp = MAX_DISPERSION;
+  refid = codes "STEP";
+  reference = record { 0 = 0 };
+  at = moment;
+  freq = clock.freq;
+  source = NO_SOURCE;
+}
+
+-- the values after what the discipline did with the combined offset, by the loop as it is then
+abbrev pub after_change : Change → Association → Combined → LoopState → ℕ → SystemValues → SystemValues
+after_change Panic p combined engine moment old = system_event PANIC_STOP old
+after_change Ignored p combined engine moment old = in_state engine.state old
+after_change Adjusted p combined engine moment old =
+    in_state engine.state (adjusted p combined engine.clock moment old)
+after_change Stepped p combined engine moment old = in_state engine.state (stepped engine.clock moment old)

@@ -1,0 +1,130 @@
+ghost use Rattle.std.specs.Prelude.{◌≡◌, ◌==◌, ◌<◌, ◌≤◌, Contains, length};
+ghost use Rattle.std.specs.List.{All};
+ghost use Rattle.associations.specs.Associations.{IsAssociation};
+ghost use Rattle.associations.specs.Choices.{HasMajority, IsChoice, code_by, code_of, code_within, is_among, marked, marked_one, survivors_in};
+ghost use Rattle.select_cluster.specs.Combining.{system_peer};
+
+use crate::association::Association;
+use crate::candidates::take_candidate;
+use crate::peers::MAX_PEERS;
+use select_cluster::{Candidate, Interval, MAX_CANDIDATES, Survivors, cluster, is_inside, select};
+
+/// The selection code of a server that is no candidate (RFC 9327, section 3.2, table 6).
+pub const REJECTED: u8 = 0;
+
+/// The selection code of a candidate that the selection casts out.
+pub const FALSETICKER: u8 = 1;
+
+/// The selection code of a candidate that clustering takes out.
+pub const OUTLIER: u8 = 3;
+
+/// The selection code of a survivor.
+pub const SURVIVOR: u8 = 4;
+
+/// The selection code of the first survivor.
+pub const SYSTEM_PEER: u8 = 6;
+
+/// What is chosen among candidates (RFC 5905, section 11.2).
+#[derive(Drop)]
+pub enum Choice {
+    /// No number of falsetickers is accepted.
+    NoMajority,
+    /// The majority agrees on this interval, and these survive in it.
+    Majority {
+        interval: Interval,
+        survivors: Survivors,
+    },
+}
+
+/// Chooses among candidates: a majority has a survivor, and each survivor is a candidate.
+pub(crate) fn choose(candidates: &[Candidate]) -> Choice
+    requires { length candidates.now ≤ MAX_CANDIDATES }
+    ensures chosen { IsChoice candidates.now result }
+    ensures among { (c : Candidate) → Contains (survivors_in result) c → Contains candidates.now c }
+    ensures some { HasMajority result → 0 < length (survivors_in result) }
+{
+    match select(candidates) {
+        None => Choice::NoMajority,
+        Some(interval) => Choice::Majority {
+            interval,
+            survivors: cluster(candidates, &interval),
+        },
+    }
+}
+
+/// Whether the server of this number survives.
+fn is_among(peer: u16, survivors: &Survivors) -> bool
+    ensures { result ≡ is_among peer survivors.now }
+{
+    survivors.as_slice().iter().any(|s| s.peer == peer)
+}
+
+/// The number of the first survivor, or 0.
+fn find_system_peer(survivors: &Survivors) -> u16
+    ensures { result ≡ system_peer survivors.now }
+{
+    match survivors.as_slice() {
+        [] => 0,
+        [first, ..] => first.peer,
+    }
+}
+
+/// The selection code of a candidate within a majority.
+fn code_within(interval: Interval, survivors: &Survivors, c: Candidate) -> u8
+    ensures value { result ≡ code_within interval survivors.now c }
+    ensures within { result ≤ 7 }
+{
+    if !is_inside(c, interval) {
+        FALSETICKER
+    } else if !is_among(c.peer, survivors) {
+        OUTLIER
+    } else if find_system_peer(survivors) == c.peer {
+        SYSTEM_PEER
+    } else {
+        SURVIVOR
+    }
+}
+
+/// The selection code of a candidate.
+fn code_of(choice: &Choice, c: Candidate) -> u8
+    ensures value { result ≡ code_of choice.now c }
+    ensures within { result ≤ 7 }
+{
+    match choice {
+        Choice::NoMajority => FALSETICKER,
+        Choice::Majority {
+            interval,
+            survivors,
+        } => code_within(*interval, survivors, c),
+    }
+}
+
+/// The selection code of a server that may be a candidate.
+fn code_by(choice: &Choice, candidate: Option<Candidate>) -> u8
+    ensures value { result ≡ code_by choice.now candidate }
+    ensures within { result ≤ 7 }
+{
+    match candidate {
+        None => REJECTED,
+        Some(c) => code_of(choice, c),
+    }
+}
+
+/// Keeps the selection code of the server of this number.
+fn mark_one(p: &mut Association, peer: u16, choice: &Choice, moment: u64)
+    ensures value { p.new ≡ marked_one choice.now moment peer p.old }
+    ensures sound { IsAssociation p.old → IsAssociation p.new }
+{
+    p.selection = code_by(choice, take_candidate(p, peer, moment));
+}
+
+/// Keeps the selection code of each server.
+pub(crate) fn mark(list: &mut [Association], choice: &Choice, moment: u64)
+    requires { length list.old ≤ MAX_PEERS }
+    ensures value { list.new ≡ marked choice.now moment list.old }
+    ensures sound { All IsAssociation list.old → All IsAssociation list.new }
+{
+    for place in 0..list.len() {
+        mark_one(&mut list[place], place as u16 + 1, choice, moment);
+    }
+}

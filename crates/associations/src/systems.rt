@@ -1,0 +1,204 @@
+ghost use Rattle.std.specs.Prelude.{◌≡◌, ◌≤◌, take, unsigned_abs};
+ghost use Rattle.associations.specs.Associations.{IsAssociation};
+ghost use Rattle.associations.specs.Candidates.{IsNear};
+ghost use Rattle.discipline.specs.declared.transitions.TheConstants.{STEP_THRESHOLD};
+ghost use Rattle.fixed_time.specs.declared.apart.TheConstants.{CAP};
+ghost use Rattle.md5.specs.Md5.{md5};
+ghost use Rattle.associations.specs.Systems.{adjusted, after_change, event_of, in_state, leap_below, refid_of, stepped, system_event, unselected, values_of};
+
+use crate::association::{Association, MAX_EVENTS};
+use crate::judging::{LEAP_UNKNOWN, MAX_SYNCHRONISED};
+use crate::showing::show_estimate;
+use discipline::{Change, Loop, SoftClock, State};
+use fixed_time::{MAX_DISPERSION, Ntp64};
+use md5::{Digest, Md5};
+use net_addr::Ip;
+use select_cluster::Combined;
+use sys_vars::System;
+
+/// The clock source of a system that no source sets (RFC 9327, section 3.1, table 3).
+pub const NO_SOURCE: u8 = 0;
+
+/// The clock source of a system that servers set (RFC 9327, section 3.1, table 3).
+pub const UDP_NTP: u8 = 6;
+
+/// The stratum of a clock that is not synchronized (RFC 5905, section 7.2: MAXSTRAT).
+pub const NO_STRATUM: u8 = 16;
+
+/// The code of the event that an offset is over the panic threshold (RFC 9327, section 3.1, table 4).
+pub const PANIC_STOP: u8 = 7;
+
+/// The code of the event that there is no system peer (RFC 9327, section 3.1, table 4).
+pub const NO_SYSTEM_PEER: u8 = 8;
+
+/// Counts an event of the system and keeps its code (RFC 9327, section 3.1).
+fn note_system_event(system: System, code: u8) -> System
+    requires { code ≤ 15 }
+    ensures { values_of result ≡ system_event code (values_of system) }
+{
+    let mut next = system;
+    next.code = code;
+    next.events = next.events.saturating_add(1).min(MAX_EVENTS);
+    next
+}
+
+/// The code of the event that the discipline enters a state (RFC 9327, section 3.1, table 4).
+fn event_of(state: State) -> u8
+    ensures value { result ≡ event_of state }
+    ensures within { result ≤ 15 }
+{
+    match state {
+        State::Nset => 1,
+        State::Fset => 2,
+        State::Spik => 3,
+        State::Freq => 4,
+        State::Sync => 5,
+    }
+}
+
+/// The system with the discipline in this state.
+fn enter(system: System, state: State) -> System
+    ensures { values_of result ≡ in_state state (values_of system) }
+{
+    if event_of(state) == event_of(system.state) {
+        return system;
+    }
+    let mut next = system;
+    next.state = state;
+    note_system_event(next, event_of(state))
+}
+
+/// The system without a system peer.
+pub(crate) fn unselect(system: System) -> System
+    ensures { values_of result ≡ unselected (values_of system) }
+{
+    let mut next = system;
+    next.peer = 0;
+    note_system_event(next, NO_SYSTEM_PEER)
+}
+
+/// The leap indicator that comes from a server.
+fn find_leap(p: &Association) -> u8
+    requires { p.now.leap ≤ 3 }
+    ensures value { result ≡ leap_below p.now }
+    ensures within { result ≤ 3 }
+{
+    if p.stratum == MAX_SYNCHRONISED {
+        LEAP_UNKNOWN
+    } else {
+        p.leap
+    }
+}
+
+fn md5_of(octets: &[u8; 16]) -> [u8; 16]
+    ensures { result ≡ md5 octets.now }
+{
+    let mut hasher = Md5::new();
+    hasher.update(octets.as_slice());
+    hasher.finalize()
+}
+
+fn first_four(digest: [u8; 16]) -> [u8; 4]
+    ensures { result ≡ take 4 digest }
+{
+    [digest[0], digest[1], digest[2], digest[3]]
+}
+
+/// The reference identifier of a server (RFC 5905, section 7.3).
+fn make_refid(ip: &Ip) -> [u8; 4]
+    ensures { result ≡ refid_of ip.now }
+{
+    match ip {
+        Ip::V4(octets) => *octets,
+        Ip::V6(octets) => first_four(md5_of(octets)),
+    }
+}
+
+/// The system that the system peer and the survivors set, in the state that it had.
+fn adjust(
+    system: System,
+    p: &Association,
+    combined: Combined,
+    clock: SoftClock,
+    moment: u64,
+) -> System
+    requires leap { p.now.leap ≤ 3 }
+    requires stratum { p.now.stratum ≤ 16 }
+    requires near { IsNear moment p.now }
+    requires capped { combined.jitter ≤ CAP }
+    requires small { unsigned_abs combined.offset.0 ≤ STEP_THRESHOLD }
+    ensures { values_of result ≡ adjusted p.now combined clock moment (values_of system) }
+{
+    let e = show_estimate(p.estimate);
+    System {
+        leap: find_leap(p),
+        stratum: p.stratum + 1,
+        precision: system.precision,
+        root_delay: p.root_delay + e.delay,
+        root_disp: p.root_disp + e.disp + combined.offset.0.unsigned_abs() + combined.jitter,
+        refid: make_refid(&p.line.addr.ip),
+        reference: clock.at(moment),
+        at: moment,
+        peer: combined.system,
+        poll: p.line.poll,
+        offset: combined.offset,
+        freq: clock.freq,
+        jitter: combined.jitter,
+        state: system.state,
+        source: UDP_NTP,
+        events: system.events,
+        code: system.code,
+    }
+}
+
+/// The system of a clock that was stepped, in the state that it had.
+fn step(system: System, clock: SoftClock, moment: u64) -> System
+    ensures { values_of result ≡ stepped clock moment (values_of system) }
+{
+    System {
+        leap: LEAP_UNKNOWN,
+        stratum: NO_STRATUM,
+        precision: system.precision,
+        root_delay: 0,
+        root_disp: MAX_DISPERSION,
+        refid: *b"STEP",
+        reference: Ntp64(0),
+        at: moment,
+        peer: system.peer,
+        poll: system.poll,
+        offset: system.offset,
+        freq: clock.freq,
+        jitter: system.jitter,
+        state: system.state,
+        source: NO_SOURCE,
+        events: system.events,
+        code: system.code,
+    }
+}
+
+/// The system after what the discipline did with the combined offset of a near system peer.
+pub(crate) fn change_system(
+    system: System,
+    change: Change,
+    p: &Association,
+    combined: Combined,
+    engine: &Loop,
+    moment: u64,
+) -> System
+    requires sound { IsAssociation p.now }
+    requires near { IsNear moment p.now }
+    requires capped { combined.jitter ≤ CAP }
+    requires small { change ≡ Change.Adjusted → unsigned_abs combined.offset.0 ≤ STEP_THRESHOLD }
+    ensures { values_of result
+        ≡ after_change change p.now combined engine.now moment (values_of system) }
+{
+    match change {
+        Change::Panic => note_system_event(system, PANIC_STOP),
+        Change::Ignored => enter(system, engine.state()),
+        Change::Adjusted => enter(
+            adjust(system, p, combined, engine.clock(), moment),
+            engine.state(),
+        ),
+        Change::Stepped => enter(step(system, engine.clock(), moment), engine.state()),
+    }
+}
