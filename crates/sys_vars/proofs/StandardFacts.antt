@@ -1,21 +1,69 @@
--- Worked values: what a server that opens publishes of itself, texts of reference identifiers, and datagrams
--- that answer (RFC 9327, sections 2, 3.1, 3.4 and 4; RFC 5905, section 7.3).
-use Rattle.std.proofs.Common.{◌≡◌, ℕ, replicate, lit≤, [], ◌∷◌, Some, None, refl}
+-- Worked values: what a server that opens publishes of itself, status words of peers, texts of reference
+-- identifiers, and datagrams that answer (RFC 9327, sections 2, 3.1, 3.2, 3.4 and 4; RFC 5905, section 7.3).
+use Rattle.std.proofs.Common.{◌≡◌, ℕ, Bool, true, false, pos, replicate, lit≤, [], ◌∷◌, Some, None, refl}
 use Rattle.std.specs.Prelude.{codes}
 use Rattle.std.specs.Fmt.{digits}
 use Rattle.hex.specs.Hex.{encode_with}
+use Rattle.net_addr.specs.declared.addr.Ip.TheVariants.{V4}
 use Rattle.mode6_frame.specs.declared.message.Head.{Head}
 use Rattle.mode6_frame.specs.Frames.{head_of}
 use Rattle.sys_vars.specs.declared.variables.VarsFault.TheVariants.{UnknownAssociation, UnknownName}
+use Rattle.sys_vars.specs.declared.peer_view.PeerView.{PeerView}
 use Rattle.sys_vars.specs.declared.published.Record.{Record}
 use Rattle.sys_vars.specs.Opening.{opening_system, opening_record}
-use Rattle.sys_vars.specs.Status.{system_status_of}
+use Rattle.sys_vars.specs.Status.{peer_status_of, system_status_of}
 use Rattle.sys_vars.specs.Variables.{refid_text, variable_of, variables_of, vars_fault_of}
 use Rattle.sys_vars.specs.Answers.{plain_text, vars_gram, text_gram}
 
 -- the clock is not synchronized, and one event came, whose code is 1
 opening-status : system_status_of opening_system ≡ 0xc011
 opening-status = refl
+
+-- a peer at 192.0.2.1 of which this is known: its key, whether its last MAC was good, and its reach register; it is
+-- the system peer, which it became in its one event (code 10)
+abbrev peer : ℕ → Bool → ℕ → PeerView
+peer key auth_ok reach = record {
+  assoc = 1;
+  addr = record { ip = V4 (192 ∷ 0 ∷ 2 ∷ 1 ∷ []); port = 123 };
+  key = key;
+  hpoll = 6;
+  ppoll = pos 6;
+  pmode = 4;
+  leap = 0;
+  stratum = 1;
+  precision = pos 0;
+  root_delay = 0;
+  root_disp = 0;
+  refid = 0x47 ∷ 0x50 ∷ 0x53 ∷ 0 ∷ [];
+  reference = record { 0 = 0 };
+  received = record { 0 = 0 };
+  reach = reach;
+  offset = record { 0 = pos 0 };
+  delay = 0;
+  disp = 0;
+  jitter = 0;
+  stages = replicate 8 None;
+  auth_ok = auth_ok;
+  selection = 6;
+  events = 1;
+  code = 10;
+  leap_in = lit≤ tt;
+  selection_in = lit≤ tt;
+  events_in = lit≤ tt;
+  code_in = lit≤ tt;
+}
+
+-- configured and reachable
+plain-peer-status : peer_status_of (peer 0 false 1) ≡ 0x961a
+plain-peer-status = refl
+
+-- it has a key, and no MAC was good
+keyed-peer-status : peer_status_of (peer 7 false 0xff) ≡ 0xd61a
+keyed-peer-status = refl
+
+-- its last MAC was good, and it is reachable no more
+good-peer-status : peer_status_of (peer 7 true 0) ≡ 0xe61a
+good-peer-status = refl
 
 -- where none is named, all variables are given
 opening-variables : variables_of opening_system [] ≡ record { name = codes "leap"; value = Some (codes "3") } ∷ record { name = codes "stratum"; value = Some (codes "16") } ∷ record { name = codes "refid"; value = Some (codes "INIT") } ∷ []

@@ -56,6 +56,7 @@ fn low_bits(selection: u8, events: u8, code: u8) -> u16
 #[cfg(test)]
 mod tests {
     use super::*;
+    use crate::peer_view::unheard;
     use crate::published::Record;
     use fixed_time::Ntp64;
     use std::test::Fail;
@@ -65,5 +66,33 @@ mod tests {
         let record = Record::opening(rt.alloc(), Ntp64(0))?;
         assert_eq!(rt; system_status(&record.system), 0xc011);
         Ok(())
+    }
+
+    // 0x80 configured, 0x40 a key, 0x20 a good MAC, 0x10 reachable; then the selection; then the
+    // number of events and the code of the last.
+    #[test]
+    fn the_status_of_a_peer_shows_what_is_known_of_it(rt: HostRuntime) {
+        let mut reached = unheard();
+        reached.reach = 1;
+        reached.events = 1;
+        reached.code = 4;
+        let mut keyed = unheard();
+        keyed.key = 1;
+        let mut chosen = unheard();
+        chosen.key = 1;
+        chosen.auth_ok = true;
+        chosen.reach = 0xff;
+        chosen.selection = 6;
+        chosen.events = 15;
+        chosen.code = 3;
+        let cases = [
+            ("never heard of", unheard(), 0x8000),
+            ("reachable, one event of code 4", reached, 0x9014),
+            ("a key without a good MAC", keyed, 0xc000),
+            ("the system peer, 15 events, code 3", chosen, 0xf6f3),
+        ];
+        for (shown, peer, status) in cases {
+            assert_eq!(rt; peer_status(&peer), status, "{shown}");
+        }
     }
 }
