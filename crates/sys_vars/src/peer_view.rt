@@ -1,9 +1,9 @@
 ghost use Rattle.std.specs.Prelude.{◌≤◌};
 
 use clock_filter::{STAGES, Sample};
-use fixed_time::{Ntp64, Span};
 #[cfg(test)]
 use fixed_time::MAX_DISPERSION;
+use fixed_time::{Ntp64, Span};
 use net_addr::Addr;
 #[cfg(test)]
 use net_addr::Ip;

@@ -104,7 +104,9 @@ mod tests {
         record.epoch = 3;
         record.system.stratum = 2;
         record.peers = PeerViews::of(vec![in rt.alloc(); unheard(); 1]?);
-        record.rules.add(&prefix_of(&Ip::V4([10, 0, 0, 0]), 8), IGNORE)?;
+        record
+            .rules
+            .add(&prefix_of(&Ip::V4([10, 0, 0, 0]), 8), IGNORE)?;
         let copy = record.copy()?;
         assert_eq!(rt; copy.epoch, 3);
         assert_eq!(rt; copy.system, record.system);
