@@ -1,15 +1,43 @@
--- A system peer is a near server.
+-- There is one choice, and its system peer is a near server.
 use Rattle.std.proofs.Common.{◌≡◌, ℕ, ◌+◌, ◌-◌, ◌<◌, ◌≤◌, Bool, true, false, cond, ltb, List, [], ◌∷◌, length, get_or, Option, Some, None, refl, sym, ap, subst, ◌∙◌, arith}
 use Rattle.std.proofs.lemmas.Bool.{ltb-true}
 use Rattle.std.specs.List.{Contains}
 use Rattle.clock_filter.specs.declared.estimates.Estimate.{Estimate}
+use Rattle.select_cluster.proofs.ClusteringLaws.{clusters_same}
+use Rattle.select_cluster.proofs.SelectingLemmas.{selected_same}
+use Rattle.select_cluster.specs.Clustering.{Clusters, survivors_of}
 use Rattle.select_cluster.specs.Combining.{system_peer}
 use Rattle.select_cluster.specs.declared.candidates.Candidate.{Candidate}
+use Rattle.select_cluster.specs.declared.selection.Interval.{Interval}
 use Rattle.associations.specs.Candidates.{IsNear, candidate_by, candidate_of, candidates_of, distance_of, near_candidate, reached_candidate}
+use Rattle.associations.specs.Choices.{IsChoice}
 use Rattle.associations.specs.Showing.{estimate_shown}
 use Rattle.associations.specs.declared.association.Association.{Association}
+use Rattle.associations.specs.declared.choosing.Choice.{Choice}
+use Rattle.associations.specs.declared.choosing.Choice.TheVariants.{NoMajority, Majority}
 use Rattle.associations.specs.declared.candidates.TheConstants.{MAX_DISTANCE}
 use Rattle.associations.proofs.NumberLemmas.{kept_at}
+
+-- intervals with the same ends and number of falsetickers are one
+interval_same : (i j : Interval) → (i.lo ≡ j.lo) × (i.hi ≡ j.hi) × (i.false_count ≡ j.false_count) → i ≡ j
+interval_same i j same =
+    ap (λ lo. record { lo = lo; hi = i.hi; false_count = i.false_count }) same.0
+    ∙ ap (λ hi. record { lo = j.lo; hi = hi; false_count = i.false_count }) same.1
+    ∙ ap (λ count. record { lo = j.lo; hi = j.hi; false_count = count }) same.2
+
+-- there is one choice among candidates
+pub choice_same : (candidates : List Candidate) (a b : Choice) → IsChoice candidates a → IsChoice candidates b → a ≡ b
+choice_same candidates NoMajority NoMajority none none' = refl
+choice_same candidates NoMajority (Majority j t) none some =
+    absurd (none j.false_count j.lo j.hi some.0.accepted)
+choice_same candidates (Majority i s) NoMajority some none =
+    absurd (none i.false_count i.lo i.hi some.0.accepted)
+choice_same candidates (Majority i s) (Majority j t) one other =
+    let same : i ≡ j = interval_same i j (selected_same candidates i j one.0 other.0) in
+    let left : s ≡ t =
+        clusters_same (survivors_of candidates j) s t
+        (subst (λ (k : Interval). Clusters (survivors_of candidates k) s) same one.1) other.1 in
+    ap (λ k. Majority k s) same ∙ ap (λ left'. Majority j left') left
 
 -- a candidate has the number of its server, whose root distance is under the threshold
 record IsOf (peer distance : ℕ) (c : Candidate) : Type 0 where

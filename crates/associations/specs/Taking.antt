@@ -1,5 +1,5 @@
 -- The peers by their numbers and addresses, and what a datagram makes of them (RFC 5905, sections 8 and 9.2; that the first line of an address counts is our own rule).
-use Rattle.std.specs.Prelude.{ℕ, ◌+◌, ◌-◌, ◌≤◌, ◌==◌, ◌&&◌, Bool, if◌then◌else◌, nat_lt, List, length, Option, None, Some, Result, Ok, Err, unwrap_or, slice_get, slice_set}
+use Rattle.std.specs.Prelude.{ℕ, ◌+◌, ◌-◌, ◌*◌, ◌^◌, ◌≤◌, ◌==◌, ◌&&◌, Bool, if◌then◌else◌, nat_lt, List, length, Option, None, Some, Result, Ok, Err, unwrap_or, slice_get, slice_set}
 use Rattle.std.specs.List.{position}
 use Rattle.discipline.specs.SoftClock.{clock_time}
 use Rattle.discipline.specs.declared.soft_clock.SoftClock.{SoftClock}
@@ -18,6 +18,11 @@ use Rattle.associations.specs.declared.reading.Reply.{Reply}
 -- what our clock shows at a moment
 abbrev pub time_at : SoftClock → ℕ → Ntp64
 time_at clock moment = record { 0 = clock_time clock moment }
+
+-- the moment that is so many seconds after another, if there is one
+abbrev pub moment_after : ℕ → ℕ → Option ℕ
+moment_after seconds moment =
+    if nat_lt (moment + seconds * 2 ^ 32) (2 ^ 64) then Some (moment + seconds * 2 ^ 32) else None
 
 -- there is a peer of this association number: they count from 1
 abbrev pub HasPeer : List Association → ℕ → Type 0

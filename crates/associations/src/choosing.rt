@@ -40,6 +40,7 @@ pub enum Choice {
 pub(crate) fn choose(candidates: &[Candidate]) -> Choice
     requires { length candidates.now ≤ MAX_CANDIDATES }
     ensures chosen { IsChoice candidates.now result }
+    ensures only { (other : Choice) → IsChoice candidates.now other → result ≡ other }
     ensures among { (c : Candidate) → Contains (survivors_in result) c → Contains candidates.now c }
     ensures some { HasMajority result → 0 < length (survivors_in result) }
 {

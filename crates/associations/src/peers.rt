@@ -1,4 +1,4 @@
-ghost use Rattle.std.specs.Prelude.{◌≡◌, ◌+◌, ◌-◌, ◌≤◌, ◌<◌, ◌↔◌, Option, None, Some, Err, false, length, map, slice_get, slice_set, IfErr, IfOk, IfSome, IsSome};
+ghost use Rattle.std.specs.Prelude.{◌≡◌, ◌+◌, ◌-◌, ◌*◌, ◌^◌, ◌≤◌, ◌<◌, ◌↔◌, Option, None, Some, Err, false, length, map, slice_get, slice_set, IfErr, IfOk, IfSome, IsSome};
 ghost use Rattle.std.specs.List.{position};
 ghost use Rattle.associations.specs.Accepting.{judged, verdict_of};
 ghost use Rattle.associations.specs.Associations.{ArePeers, asked, opened};
@@ -8,7 +8,7 @@ ghost use Rattle.associations.specs.Requests.{request_header, request_of};
 ghost use Rattle.associations.specs.Settling.{IsSettled};
 ghost use Rattle.associations.specs.Showing.{AreViews};
 ghost use Rattle.ntp_packet.specs.Packet.{IsPacket};
-ghost use Rattle.associations.specs.Taking.{HasPeer, IsReadable, answer_by, answer_to, line_for, peer_at, peers_after, place_for, same_addr, time_at};
+ghost use Rattle.associations.specs.Taking.{HasPeer, IsReadable, answer_by, answer_to, line_for, moment_after, peer_at, peers_after, place_for, same_addr, time_at};
 
 use crate::accepting::judge;
 use crate::asking::make_request;
@@ -87,6 +87,23 @@ fn answer(peer: u16, verdict: Result<bool, ReplyFault>) -> Result<TakenReply, Re
     }
 }
 
+/// The seconds of a poll interval.
+fn seconds_of(poll: u8) -> u64
+    requires { poll ≤ 17 }
+    ensures value { result ≡ 2 ^ poll }
+    ensures most { result ≤ 2 ^ 17 }
+{
+    2u64.pow(u32::from(poll))
+}
+
+/// The moment that is so many seconds later, if there is one.
+fn moment_after(seconds: u64, moment: u64) -> Option<u64>
+    requires { seconds ≤ 2 ^ 19 }
+    ensures { result ≡ moment_after seconds moment }
+{
+    moment.checked_add(seconds * (1 << 32))
+}
+
 impl Peers {
     /// An association for each line; no server was asked yet.
     pub fn of(alloc: Global, lines: &[ServerLine]) -> Result<Peers, AllocError>
@@ -123,6 +140,25 @@ impl Peers {
         ensures { IfSome (peer_at self.now peer) (λ p. result ≡ p.line.poll) }
     {
         self.list[usize::from(peer) - 1].line.poll
+    }
+
+    /// When a peer is asked next after a request at the moment: one poll interval later, in 32.32
+    /// seconds. None exactly where that is past the last moment.
+    pub fn next_request(&self, peer: u16, moment: u64) -> Option<u64>
+        requires { HasPeer self.now peer }
+        ensures { IfSome (peer_at self.now peer) (λ p. result ≡ moment_after (2 ^ p.line.poll) moment) }
+    {
+        moment_after(seconds_of(self.poll(peer)), moment)
+    }
+
+    /// When a peer is asked next after the kiss code RATE came at the moment: four poll intervals
+    /// later (RFC 5905, section 7.4). None exactly where that is past the last moment.
+    pub fn next_after_rate(&self, peer: u16, moment: u64) -> Option<u64>
+        requires { HasPeer self.now peer }
+        ensures { IfSome (peer_at self.now peer) (λ p.
+            result ≡ moment_after (4 * 2 ^ p.line.poll) moment) }
+    {
+        moment_after(4 * seconds_of(self.poll(peer)), moment)
     }
 
     /// The place of the first line with this address and port, or the end.

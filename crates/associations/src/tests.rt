@@ -381,6 +381,24 @@ fn a_server_in_the_next_era_is_one_second_ahead(rt: HostRuntime) -> Result<(), F
     Ok(())
 }
 
+// RATE, whose code stands where the reference identifier does, puts the next request off.
+#[test]
+fn the_kiss_code_rate_puts_the_next_request_off(rt: HostRuntime) -> Result<(), Fail> {
+    let keys = KeyTable::new(rt.alloc());
+    let mut peers = one_server(rt.alloc(), 0)?;
+    let _ = ask(&mut peers, &CLOCK, &keys, SECOND);
+    let mut kiss = *REPLY;
+    kiss[1] = 0;
+    kiss[12..16].copy_from_slice(b"RATE");
+    let answer = peers.take_reply(&SERVER, &kiss, &keys, &CLOCK, 2 * SECOND);
+    assert_eq!(rt; answer, Err(ReplyFault::Kiss(*b"RATE")));
+    assert!(rt; peers.len() == 1);
+    assert_eq!(rt; peers.next_request(1, SECOND), Some(65 * SECOND));
+    assert_eq!(rt; peers.next_after_rate(1, 2 * SECOND), Some(258 * SECOND));
+    assert_eq!(rt; peers.next_request(1, u64::MAX - 63 * SECOND), None);
+    Ok(())
+}
+
 #[test]
 fn the_first_line_of_an_address_counts(rt: HostRuntime) -> Result<(), Fail> {
     let other = Addr {
