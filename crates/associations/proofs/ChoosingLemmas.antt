@@ -1,5 +1,5 @@
 -- There is one choice, and its system peer is a near server.
-use Rattle.std.proofs.Common.{◌≡◌, ℕ, ◌+◌, ◌-◌, ◌<◌, ◌≤◌, Bool, true, false, cond, ltb, List, [], ◌∷◌, length, get_or, Option, Some, None, refl, sym, ap, subst, ◌∙◌, arith}
+use Rattle.std.proofs.Common.{◌≡◌, ℕ, ◌+◌, ◌-◌, ◌<◌, ◌≤◌, Bool, true, false, cond, ltb, List, [], ◌∷◌, get_or, Option, Some, None, refl, ap, subst, ◌∙◌, arith}
 use Rattle.std.proofs.lemmas.Bool.{ltb-true}
 use Rattle.std.specs.List.{Contains}
 use Rattle.clock_filter.specs.declared.estimates.Estimate.{Estimate}
@@ -9,7 +9,7 @@ use Rattle.select_cluster.specs.Clustering.{Clusters, survivors_of}
 use Rattle.select_cluster.specs.Combining.{system_peer}
 use Rattle.select_cluster.specs.declared.candidates.Candidate.{Candidate}
 use Rattle.select_cluster.specs.declared.selection.Interval.{Interval}
-use Rattle.associations.specs.Candidates.{IsNear, candidate_by, candidate_of, candidates_of, distance_of, near_candidate, reached_candidate}
+use Rattle.associations.specs.Candidates.{IsNear, candidate_by, candidate_of, candidates_of, distance_of, near_candidate}
 use Rattle.associations.specs.Choices.{IsChoice}
 use Rattle.associations.specs.Showing.{estimate_shown}
 use Rattle.associations.specs.declared.association.Association.{Association}
@@ -35,8 +35,8 @@ choice_same candidates (Majority i s) NoMajority some none =
 choice_same candidates (Majority i s) (Majority j t) one other =
     let same : i ≡ j = interval_same i j (selected_same candidates i j one.0 other.0) in
     let left : s ≡ t =
-        clusters_same (survivors_of candidates j) s t
-        (subst (λ (k : Interval). Clusters (survivors_of candidates k) s) same one.1) other.1 in
+    clusters_same (survivors_of candidates j) s t
+    (subst (λ (k : Interval). Clusters (survivors_of candidates k) s) same one.1) other.1 in
     ap (λ k. Majority k s) same ∙ ap (λ left'. Majority j left') left
 
 -- a candidate has the number of its server, whose root distance is under the threshold

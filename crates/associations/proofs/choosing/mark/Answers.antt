@@ -1,9 +1,14 @@
 use Rattle.std.proofs.Common.{ℕ, arith}
 use Rattle.associations.specs.Choices.{marked_one}
 use Rattle.associations.specs.declared.association.Association.{Association}
-use Rattle.associations.proofs.NumberLemmas.{changed_more}
+use Rattle.associations.proofs.NumberLemmas.{changed_all, changed_more}
 use Rattle.associations.proofs.TakingLemmas.{All-changed}
 use Rattle.associations.proofs.choosing.mark.Goals as goal
+
+pub returns-clause-value : goal.returns-clause-value
+returns-clause-value c =
+    changed_all (λ (np : ℕ × Association). marked_one c.args.choice.now c.args.moment np.0 np.1)
+    c.args.list.now c.loop-place.list c.loop-place.place (omega arith) c.loop-place.invariant.so_far
 
 pub loop-place-preserved : goal.loop-place-preserved
 loop-place-preserved c = record {
