@@ -1,11 +1,20 @@
--- Worked samples of replies, and of the words about a server.
-use Rattle.std.proofs.Common.{◌≡◌, ℕ, ◌+◌, ◌-◌, ◌*◌, ◌^◌, pos, negsuc, neg_ℤ, true, false, replicate, refl}
+-- Worked samples of replies, and of the words about a server and about the system.
+use Rattle.std.proofs.Common.{◌≡◌, ℕ, ◌+◌, ◌-◌, ◌*◌, ◌^◌, [], ◌∷◌, pos, negsuc, neg_ℤ, true, false, Some, None, replicate, lit≤, refl}
+use Rattle.access_rules.specs.declared.servers.ServerLine.{ServerLine}
+use Rattle.clock_filter.specs.declared.estimates.Estimate.{Estimate}
+use Rattle.discipline.specs.declared.state.State.TheVariants.{Nset, Spik}
 use Rattle.fixed_time.specs.declared.time.Ntp64.{Ntp64}
+use Rattle.net_addr.specs.declared.addr.Ip.TheVariants.{V4}
 use Rattle.ntp_packet.specs.declared.packet.Header.{Header}
-use Rattle.associations.specs.Associations.{reach_after_request, runs_empty}
+use Rattle.sys_vars.specs.Opening.{opening_system}
+use Rattle.associations.specs.Associations.{opened, reach_after_request, runs_empty}
+use Rattle.associations.specs.Candidates.{candidate_of}
 use Rattle.associations.specs.Judging.{root_distance_of}
 use Rattle.associations.specs.Samples.{held_delay, lead_by, resolution_of, round_trip_by, sample_by, waited_for}
 use Rattle.associations.specs.Accepting.{reach_after_reply}
+use Rattle.associations.specs.Systems.{in_state, leap_below, system_event, unselected, values_of}
+use Rattle.associations.specs.Taking.{moment_after}
+use Rattle.associations.specs.declared.association.Association.{Association}
 use Rattle.std.specs.Prelude.{int_div}
 
 -- a reply of stratum 2 with these origin, receive and transmit timestamps
@@ -91,3 +100,66 @@ empty_before = refl
 
 marked : reach_after_reply 0b10 ≡ 0b11
 marked = refl
+
+-- a server at 10.0.0.1 that was reached, with this estimate, whose sample came at three and a half seconds
+abbrev line : ServerLine
+line = record {
+  addr = record { ip = V4 (10 ∷ 0 ∷ 0 ∷ 1 ∷ []); port = 123 };
+  key = 0;
+  poll = 6;
+  key_id = lit≤ tt;
+  at_least = lit≤ tt;
+  at_most = lit≤ tt;
+}
+
+abbrev measured : ℕ → ℕ → Association
+measured stratum disp = record (opened line) {
+  stratum = stratum;
+  leap = 1;
+  root_delay = 2 ^ 16;
+  root_disp = 2 ^ 18;
+  reach = 1;
+  estimate = Some (record { offset = record { 0 = pos 7 }; delay = 2 ^ 31; disp = disp; jitter = 4096; at = 7 * 2 ^ 31 });
+}
+
+-- a quarter of a second of half a delay, and a dispersion of a second: ten seconds later 644,246 units have drifted
+near : candidate_of (27 * 2 ^ 31) 3 (measured 2 (2 ^ 32))
+    ≡ Some (record { peer = 3; stratum = 2; offset = record { 0 = pos 7 }; distance = 2 ^ 30 + 2 ^ 15 + 2 ^ 18 + 2 ^ 32 + 644246 + 4096; jitter = 4096 })
+near = refl
+
+-- a dispersion of eight seconds, as after the first sample, is too far
+far_off : candidate_of (27 * 2 ^ 31) 3 (measured 2 (2 ^ 35)) ≡ None
+far_off = refl
+
+-- a server that was not asked yet is no candidate
+unasked : candidate_of 0 1 (opened line) ≡ None
+unasked = refl
+
+-- below stratum 15 no clock is synchronized, below 14 one is
+below_fifteen : leap_below (measured 15 0) ≡ 3
+below_fifteen = refl
+
+below_fourteen : leap_below (measured 14 0) ≡ 1
+below_fourteen = refl
+
+-- the second event of a server that opened: there is no system peer
+no_peer : unselected (values_of opening_system) ≡ record (values_of opening_system) { events = 2; code = 8 }
+no_peer = refl
+
+-- a state that stays is no event, and another one is
+same_state : in_state Nset (values_of opening_system) ≡ values_of opening_system
+same_state = refl
+
+other_state : in_state Spik (values_of opening_system) ≡ record (values_of opening_system) { state = Spik; events = 2; code = 3 }
+other_state = refl
+
+-- events count up to 15
+sixteenth : system_event 7 (record (values_of opening_system) { events = 15 }) ≡ record (values_of opening_system) { events = 15; code = 7 }
+sixteenth = refl
+
+-- an interval of 64 seconds, up to the last moment
+in_time : moment_after 64 (2 ^ 64 - 1 - 2 ^ 38) ≡ Some (2 ^ 64 - 1)
+in_time = refl
+
+past_the_end : moment_after 64 (2 ^ 64 - 2 ^ 38) ≡ None
+past_the_end = refl
