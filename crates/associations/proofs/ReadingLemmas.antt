@@ -1,31 +1,14 @@
 -- Octets are one reply, or none.
-use Rattle.std.proofs.Common.{◌≡◌, ℕ, List, Option, None, Some, ◌↔◌, refl, sym, ap, subst, ◌∙◌}
+use Rattle.std.proofs.Common.{◌≡◌, ℕ, List, Option, None, Some, refl, sym, ap, subst, ◌∙◌}
 use Rattle.mac_keys.specs.declared.checking.Auth.{Auth}
-use Rattle.mac_keys.specs.declared.checking.Auth.TheVariants.{Absent, Good, Bad}
 use Rattle.mac_keys.specs.declared.keys.Key.{Key}
 use Rattle.ntp_packet.specs.declared.packet.Header.{Header}
 use Rattle.ntp_packet.specs.Packet.{IsPacket}
 use Rattle.ntp_trailer.specs.declared.parts.Trailer.{Trailer as FieldsAndMac}
 use Rattle.ntp_trailer.specs.Trailers.{HasTrailer}
-use Rattle.ntp_trailer.specs.Authentic.{IsAuth, IsAuthenticTrailer}
+use Rattle.ntp_trailer.specs.Authentic.{IsAuth}
 use Rattle.associations.specs.declared.reading.Reply.{Reply}
 use Rattle.associations.specs.Replies.{IsReply, IsRead}
-
--- what is answered exactly where a MAC is missing, good or bad is what the MAC shows
-pub IsAuth-answered : (keys : List Key) (octets : List ℕ) (trailer : FieldsAndMac) (answer : Auth) → ((answer ≡ Absent) ↔ (trailer.mac ≡ None)) → ((id : ℕ) → ((answer ≡ Good id) ↔ IsAuthenticTrailer keys octets trailer id))
-    → ((answer ≡ Bad) ↔ (¬ (trailer.mac ≡ None) × ((id : ℕ) → ¬ (IsAuthenticTrailer keys octets trailer id))))
-    → IsAuth keys octets trailer answer
-IsAuth-answered keys octets trailer Absent absent good bad = absent.0 refl
-IsAuth-answered keys octets trailer (Good id) absent good bad = (good id).0 refl
-IsAuth-answered keys octets trailer Bad absent good bad = bad.0 refl
-
--- and nothing else is
-pub IsAuth-only : (keys : List Key) (octets : List ℕ) (trailer : FieldsAndMac) (answer other : Auth) → ((answer ≡ Absent) ↔ (trailer.mac ≡ None)) → ((id : ℕ) → ((answer ≡ Good id) ↔ IsAuthenticTrailer keys octets trailer id))
-    → ((answer ≡ Bad) ↔ (¬ (trailer.mac ≡ None) × ((id : ℕ) → ¬ (IsAuthenticTrailer keys octets trailer id))))
-    → IsAuth keys octets trailer other → answer ≡ other
-IsAuth-only keys octets trailer answer Absent absent good bad is = absent.1 is
-IsAuth-only keys octets trailer answer (Good id) absent good bad is = (good id).1 is
-IsAuth-only keys octets trailer answer Bad absent good bad is = bad.1 is
 
 -- where no reply is, none is read
 pub only_none : (keys : List Key) (octets : List ℕ) → ((reply : Reply) → ¬ IsReply keys octets reply) → (reading : Option Reply) → IsRead keys octets reading → None ≡ reading

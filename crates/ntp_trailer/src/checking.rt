@@ -1,6 +1,6 @@
 ghost use Rattle.std.specs.Prelude.{◌≡◌, ◌↔◌, ◌+◌, ◌≤◌, ℕ, length, None};
 ghost use Rattle.ntp_trailer.specs.Trailers.{HasTrailer};
-ghost use Rattle.ntp_trailer.specs.Authentic.{IsAuthenticMac, IsAuthenticTrailer};
+ghost use Rattle.ntp_trailer.specs.Authentic.{IsAuth, IsAuthenticMac, IsAuthenticTrailer};
 
 use crate::parts::{KEY_ID_LEN, Mac, Trailer};
 use crate::places::{before, behind};
@@ -15,6 +15,10 @@ pub fn auth(keys: &KeyTable, bytes: &[u8], trailer: &Trailer) -> Auth
         → ((result ≡ Auth.Good id) ↔ IsAuthenticTrailer keys.now bytes.now trailer.now id) }
     ensures bad { (result ≡ Auth.Bad) ↔ (¬ (trailer.now.mac ≡ None)
         × ((id : ℕ) → ¬ (IsAuthenticTrailer keys.now bytes.now trailer.now id))) }
+
+    // What is answered is what the MAC shows, and no other answer is.
+    ensures shown { IsAuth keys.now bytes.now trailer.now result }
+    ensures only { (other : Auth) → IsAuth keys.now bytes.now trailer.now other → result ≡ other }
 {
     match trailer.mac {
         Some(mac) => auth_of(keys, bytes, mac),

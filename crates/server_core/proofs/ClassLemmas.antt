@@ -1,11 +1,10 @@
 -- A datagram has one class.
-use Rattle.std.proofs.Common.{◌≡◌, ◌≢◌, ◌≤◌, ℕ, List, [], ◌∷◌, length, None, Some, ◌↔◌, refl, sym, ap, subst, ℤ, ◌∙◌, inl, inr, arith, Bool, true, false, ◌==◌, ◌⊎◌}
+use Rattle.std.proofs.Common.{◌≡◌, ◌≢◌, ◌≤◌, ℕ, List, [], ◌∷◌, length, None, Some, refl, sym, ap, subst, ℤ, ◌∙◌, inl, inr, arith, Bool, true, false, ◌==◌, ◌⊎◌}
 use Rattle.std.proofs.Math.Bridge.{le_prop}
 use Rattle.std.proofs.lemmas.Bool.Decides.{nat_tests}
 use Rattle.fixed_time.specs.declared.time.Ntp64.{Ntp64}
 use Rattle.net_addr.specs.declared.addr.Addr.{Addr}
 use Rattle.mac_keys.specs.declared.checking.Auth.{Auth}
-use Rattle.mac_keys.specs.declared.checking.Auth.TheVariants.{Absent, Good, Bad}
 use Rattle.mac_keys.specs.declared.keys.Key.{Key}
 use Rattle.ntp_packet.specs.declared.packet.Header.{Header}
 use Rattle.ntp_packet.specs.declared.packet.PacketFault.{PacketFault}
@@ -13,7 +12,7 @@ use Rattle.ntp_packet.specs.Packet.{IsPacket, fault_of, mode_of}
 use Rattle.ntp_trailer.specs.declared.parts.Trailer.{Trailer as FieldsAndMac}
 use Rattle.ntp_trailer.specs.declared.parts.TrailerFault.{TrailerFault}
 use Rattle.ntp_trailer.specs.Trailers.{HasTrailer, IsRefused}
-use Rattle.ntp_trailer.specs.Authentic.{IsAuth, IsAuthenticTrailer}
+use Rattle.ntp_trailer.specs.Authentic.{IsAuth}
 use Rattle.mode6_frame.specs.declared.message.FrameFault.{FrameFault}
 use Rattle.mode6_frame.specs.Frames.{FrameParts, IsFrame, frame_fault_of}
 use Rattle.sys_vars.specs.declared.asked.Asked.{Asked}
@@ -107,22 +106,6 @@ ask_same h from auth a b first second =
     ∙ ap (λ (t : Ntp64). ask_of b.from a.version b.poll t a.auth a.version_least a.version_most) transmit_is
     ∙ ap (λ (u : Auth). ask_of b.from a.version b.poll b.transmit u a.version_least a.version_most) auth_is
     ∙ same_but_for_proofs b.from a.version b.version b.poll b.transmit b.auth version_is a.version_least a.version_most b.version_least b.version_most
-
--- what is answered exactly where a MAC is missing, good or bad is what the MAC shows
-pub IsAuth-answered : (keys : List Key) (octets : List ℕ) (trailer : FieldsAndMac) (answer : Auth) → ((answer ≡ Absent) ↔ (trailer.mac ≡ None)) → ((id : ℕ) → ((answer ≡ Good id) ↔ IsAuthenticTrailer keys octets trailer id))
-    → ((answer ≡ Bad) ↔ (¬ (trailer.mac ≡ None) × ((id : ℕ) → ¬ (IsAuthenticTrailer keys octets trailer id))))
-    → IsAuth keys octets trailer answer
-IsAuth-answered keys octets trailer Absent absent good bad = absent.0 refl
-IsAuth-answered keys octets trailer (Good id) absent good bad = (good id).0 refl
-IsAuth-answered keys octets trailer Bad absent good bad = bad.0 refl
-
--- and nothing else is
-pub IsAuth-only : (keys : List Key) (octets : List ℕ) (trailer : FieldsAndMac) (answer other : Auth) → ((answer ≡ Absent) ↔ (trailer.mac ≡ None)) → ((id : ℕ) → ((answer ≡ Good id) ↔ IsAuthenticTrailer keys octets trailer id))
-    → ((answer ≡ Bad) ↔ (¬ (trailer.mac ≡ None) × ((id : ℕ) → ¬ (IsAuthenticTrailer keys octets trailer id))))
-    → IsAuth keys octets trailer other → answer ≡ other
-IsAuth-only keys octets trailer answer Absent absent good bad is = absent.1 is
-IsAuth-only keys octets trailer answer (Good id) absent good bad is = (good id).1 is
-IsAuth-only keys octets trailer answer Bad absent good bad is = bad.1 is
 
 -- what is refused as a packet is that and nothing else
 pub only_packet : (octets : List ℕ) (from : Addr) (keys : List Key) (fault : PacketFault) (number : ℕ) → number ≡ packet_number fault → mode_of octets ≡ MODE_CLIENT → fault_of octets ≡ Some fault → ((h : Header) → ¬ IsPacket octets h)

@@ -1,5 +1,5 @@
 use Rattle.std.proofs.Common.{rules}
-use Rattle.associations.proofs.ReadingLemmas.{IsAuth-answered, IsAuth-only, only_none, only_reply}
+use Rattle.associations.proofs.ReadingLemmas.{only_none, only_reply}
 use Rattle.associations.proofs.reading.read_reply.Goals as goal
 
 pub returns-in-Err-split-clause-read : goal.returns-in-Err-split-clause-read
@@ -14,7 +14,7 @@ returns-in-Ok-split-clause-read c = record {
   packet = c.in-Ok.ensures.found;
   server = search rules;
   follows = c.in-Ok-split.ensures.found;
-  shown = IsAuth-answered c.args.keys.now c.args.bytes.now c.in-Ok-split.trailer c.auth.result c.auth.ensures.absent c.auth.ensures.good c.auth.ensures.bad;
+  shown = c.auth.ensures.shown;
 }
 
 pub returns-in-Ok-split-clause-only : goal.returns-in-Ok-split-clause-only
@@ -22,4 +22,4 @@ returns-in-Ok-split-clause-only c =
     only_reply c.args.keys.now c.args.bytes.now c.in-Ok.header c.in-Ok-split.trailer c.auth.result (returns-in-Ok-split-clause-read c)
     (λ other packet. let one = c.in-Ok.ensures.only other packet in cc)
     (λ other has. let one = c.in-Ok-split.ensures.only other has in cc)
-    (λ other is. IsAuth-only c.args.keys.now c.args.bytes.now c.in-Ok-split.trailer c.auth.result other c.auth.ensures.absent c.auth.ensures.good c.auth.ensures.bad is)
+    c.auth.ensures.only

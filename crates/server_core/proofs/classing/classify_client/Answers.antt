@@ -1,4 +1,4 @@
-use Rattle.server_core.proofs.ClassLemmas.{only_packet, only_trailer, only_time, IsAuth-answered, IsAuth-only}
+use Rattle.server_core.proofs.ClassLemmas.{only_packet, only_trailer, only_time}
 use Rattle.server_core.proofs.classing.classify_client.Goals as goal
 
 pub returns-in-Err-clause-only : goal.returns-in-Err-clause-only
@@ -18,7 +18,7 @@ returns-in-Ok-split-clause-found c = record {
   auth = c.auth.result;
   packet = record { packet = c.in-Ok.ensures.found; client = c.requires.mode };
   follows = c.in-Ok-split.ensures.found;
-  shown = IsAuth-answered c.args.keys.now c.args.bytes.now c.in-Ok-split.trailer c.auth.result c.auth.ensures.absent c.auth.ensures.good c.auth.ensures.bad;
+  shown = c.auth.ensures.shown;
   is = c.ask_of.ensures;
 }
 
@@ -28,5 +28,5 @@ returns-in-Ok-split-clause-only c =
     (λ other packet. let one = c.in-Ok.ensures.only other packet in cc)
     (λ other has. let one = c.in-Ok-split.ensures.only other has in cc)
     (λ fault refused. let none = c.in-Ok-split.ensures.due fault refused in absurd cc)
-    (λ other is. IsAuth-only c.args.keys.now c.args.bytes.now c.in-Ok-split.trailer c.auth.result other c.auth.ensures.absent c.auth.ensures.good c.auth.ensures.bad is)
+    c.auth.ensures.only
     c.ask_of.ensures
