@@ -30,7 +30,7 @@ pub trait Source {
     /// How many reads failed.
     ghost faults: { Self → ℕ };
 
-    /// Reads the next octets into a front of `into`, and answers how many; the others stay. None
+    /// Reads the next octets into a front of `into`, and answers how many; the others stay. 0
     /// for a slice that isn't empty is the end.
     fn read(&mut self, into: &mut [u8]) -> Result<usize, Failed>
         ensures told { rest self.old ≡ preceded (octets_read result into.new) (rest self.new) }
