@@ -1,7 +1,6 @@
 -- Worked samples of replies, and of the words about a server and about the system.
 use Rattle.std.proofs.Common.{◌≡◌, ℕ, ◌+◌, ◌-◌, ◌*◌, ◌^◌, [], ◌∷◌, pos, negsuc, neg_ℤ, true, false, Some, None, replicate, lit≤, refl}
 use Rattle.access_rules.specs.declared.servers.ServerLine.{ServerLine}
-use Rattle.clock_filter.specs.declared.estimates.Estimate.{Estimate}
 use Rattle.discipline.specs.declared.state.State.TheVariants.{Nset, Spik}
 use Rattle.fixed_time.specs.declared.time.Ntp64.{Ntp64}
 use Rattle.net_addr.specs.declared.addr.Ip.TheVariants.{V4}

@@ -1,9 +1,9 @@
-ghost use Rattle.std.specs.Prelude.{◌≡◌, ◌<◌, ◌≤◌, Contains, IfSome, length, map};
+ghost use Rattle.std.specs.Prelude.{◌≡◌, ◌<◌, ◌≤◌, IfSome, length, map};
 ghost use Rattle.std.specs.List.{All};
 ghost use Rattle.associations.specs.Associations.{IsAssociation};
 ghost use Rattle.associations.specs.Candidates.{IsNear};
 ghost use Rattle.associations.specs.Choices.{HasMajority, combined_of, survivors_in};
-ghost use Rattle.associations.specs.Settling.{IsSettled, course_by, course_of, forgotten, is_step, is_stepped, loop_by, peers_by, values_by};
+ghost use Rattle.associations.specs.Settling.{IsSettled, course_by, course_of, forgotten, is_step, is_stepped, loop_by, values_by};
 ghost use Rattle.associations.specs.Systems.{values_of};
 ghost use Rattle.associations.specs.Taking.{HasPeer, peer_at};
 ghost use Rattle.fixed_time.specs.declared.apart.TheConstants.{CAP};
