@@ -1,11 +1,23 @@
 -- Worked values. The first two are the offset and the delay of a reply over the end of an era (RFC 5905, section 8, figure 15).
 use Rattle.std.proofs.Common.{◌≡◌, ℕ, [], ◌∷◌, pos, negsuc, ◌-◌, ◌^◌, ◌+ℤ◌, ◌-ℤ◌, refl, lit≤, lit<}
 use Rattle.std.specs.Prelude.{int_div}
+use Rattle.fixed_time.specs.declared.apart.TheConstants.{CAP}
+use Rattle.fixed_time.specs.declared.time.TheConstants.{MAX_DISPERSION, PHI}
 use Rattle.fixed_time.specs.Time.{diff_of, shifted, to_short_of, drift_of}
 use Rattle.fixed_time.specs.Apart.{squared_apart_of}
 use Rattle.fixed_time.specs.Order.{arranged}
 use Rattle.fixed_time.specs.Root.{root}
 use Rattle.fixed_time.proofs.RootLemmas.{root_is}
+
+-- 15 parts per million, and 16 seconds (section 7.2)
+PHI-is : PHI ≡ 15
+PHI-is = refl
+
+MAX_DISPERSION-is : MAX_DISPERSION ≡ 68719476736
+MAX_DISPERSION-is = refl
+
+CAP-is : CAP ≡ 2 ^ 60
+CAP-is = refl
 
 -- the four timestamps: half a second before the era's end, one second after it, the same, half a second after it
 abbrev origin : ℕ
