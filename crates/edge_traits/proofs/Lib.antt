@@ -1,3 +1,4 @@
 pub mod MemoryLemmas
 pub mod ReadLemmas
 pub mod ToldLemmas
+mod WorkedFacts

@@ -8,4 +8,6 @@ pub mod Memory
 pub mod MemorySources
 pub mod MemoryFiles
 pub mod MemoryHosts
+pub mod Ports
+pub mod Readings
 pub mod Sockets

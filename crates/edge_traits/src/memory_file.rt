@@ -3,7 +3,7 @@ ghost use Rattle.edge_traits.specs.MemoryFiles.{IsSourceOf, file_named};
 
 use crate::host::HostFault;
 use crate::memory_source::MemorySource;
-use crate::name::Name;
+use crate::text::Name;
 use std::alloc::AllocError;
 
 /// A file of a host in memory.

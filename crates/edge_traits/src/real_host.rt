@@ -1,5 +1,5 @@
-ghost use Rattle.std.specs.Prelude.{◌≡◌, ◌+◌, ◌*◌, ◌/◌, ◌%◌, ◌^◌};
-ghost use Rattle.std.specs.Duration.{as_nanos};
+ghost use Rattle.std.specs.Prelude.{◌≡◌};
+ghost use Rattle.edge_traits.specs.Readings.{origin_by, salt_by, timestamp_after};
 
 use crate::file_source::FileSource;
 use crate::host::{Host, HostFault};
@@ -31,19 +31,34 @@ pub struct RealHost<S> {
 }
 
 impl<S: Files + Net + time::Clock + RandomSource + Copy> RealHost<S> {
-    /// The origin is 0 where the wall clock can't be read, and the salt has zero octets where the
-    /// system gives no random ones.
+    /// The host of this system, as `of` makes it of what can be read now.
     pub fn new(system: S) -> RealHost<S>
         ensures { ⟦<RealHost<S> as Host>⟧.faults result ≡ 0 }
     {
         // The two clocks are read one right after the other.
         let begin = Instant::now(&system).ok();
-        let origin = wall_time(&system);
+        let since_1970 = system.since_1970().ok();
+        RealHost::of(system, begin, since_1970, random_octets(&system))
+    }
+
+    /// The host of this system whose clocks begin at `begin`, where the wall clock showed
+    /// `since_1970` and the system gave the random octets of `salt`. What could not be read is None:
+    /// then the origin is 0, and the salt has zero octets.
+    pub fn of(
+        system: S,
+        begin: Option<Instant>,
+        since_1970: Option<Duration>,
+        salt: Option<[u8; 16]>,
+    ) -> RealHost<S>
+        ensures origin { (⟦<RealHost<S> as Host>⟧.origin result).0 ≡ origin_by since_1970 }
+        ensures salt { (⟦<RealHost<S> as Host>⟧.salt result).0 ≡ salt_by salt }
+        ensures faults { ⟦<RealHost<S> as Host>⟧.faults result ≡ 0 }
+    {
         RealHost {
             system,
             begin,
-            origin,
-            salt: random_salt(&system),
+            origin: origin_by(since_1970),
+            salt: Salt(salt.unwrap_or([0; 16])),
             faults: 0,
         }
     }
@@ -103,22 +118,28 @@ impl<S: Files + Net + time::Clock + RandomSource + Copy> Host for RealHost<S> {
 
 /// The NTP timestamp of the moment so long after the start of 1970, rounded down.
 fn timestamp(since_1970: Duration) -> Ntp64
-    ensures { result.0
-        ≡ (SECONDS_TO_1970 * 2 ^ 32 + as_nanos since_1970 * 2 ^ 32 / 10 ^ 9) % 2 ^ 64 }
+    ensures { result.0 ≡ timestamp_after since_1970 }
 {
     let units = (SECONDS_TO_1970 << 32) + units_of(since_1970);
     Ntp64((units % (1 << 64)) as u64)
 }
 
-fn wall_time(clock: &impl time::Clock) -> Ntp64 {
-    clock.since_1970().map_or(Ntp64(0), timestamp)
+/// The origin by what the wall clock showed.
+fn origin_by(since_1970: Option<Duration>) -> Ntp64
+    ensures { result.0 ≡ origin_by since_1970 }
+{
+    match since_1970 {
+        Some(since_1970) => timestamp(since_1970),
+        None => Ntp64(0),
+    }
 }
 
-fn random_salt(source: &impl RandomSource) -> Salt {
+/// Random octets of the system, where it gives all of them.
+fn random_octets(source: &impl RandomSource) -> Option<[u8; 16]> {
     let mut octets = [0; 16];
     match source.fill_bytes(&mut octets) {
-        Ok(()) => Salt(octets),
-        Err(_) => Salt([0; 16]),
+        Ok(()) => Some(octets),
+        Err(_) => None,
     }
 }
 
@@ -240,7 +261,9 @@ mod tests {
 
     #[test]
     fn a_broken_system_gives_no_origin_and_no_salt(rt: HostRuntime) {
-        assert_eq!(rt; wall_time(&Broken), Ntp64(0));
-        assert_eq!(rt; random_salt(&Broken).0, [0; 16]);
+        assert!(rt; random_octets(&Broken).is_none());
+        let mut host = RealHost::of(rt, None, Broken.since_1970().ok(), random_octets(&Broken));
+        assert_eq!(rt; host.origin(), Ntp64(0));
+        assert_eq!(rt; host.salt().0, [0; 16]);
     }
 }

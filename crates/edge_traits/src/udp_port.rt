@@ -15,8 +15,10 @@ use std::time::Duration;
 const WAIT: u64 = 1;
 
 /// A UDP socket of the system, of the family of its address. A take waits one second for a datagram
-/// before it is quiet. The port is never closed, and tells nothing of its datagrams. It knows no
-/// zones: a datagram to a link-local address, whose interface it would name, may fail.
+/// before it is quiet. The port is never closed, and tells nothing of its datagrams.
+///
+/// It knows no zones (RFC 4007, section 6): a take drops the zone of a link-local sender, and a give
+/// to that address, whose interface the zone would name, may fail.
 #[derive(Drop)]
 pub struct UdpPort {
     socket: UdpSocket,

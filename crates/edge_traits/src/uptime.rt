@@ -1,5 +1,5 @@
-ghost use Rattle.std.specs.Prelude.{◌≡◌, ◌≤◌, ◌*◌, ◌/◌, ◌^◌};
-ghost use Rattle.std.specs.Duration.{as_nanos};
+ghost use Rattle.std.specs.Prelude.{◌≡◌, ◌≤◌};
+ghost use Rattle.edge_traits.specs.Readings.{units_in};
 
 use crate::clock::Clock;
 use std::marker::Model;
@@ -67,11 +67,13 @@ impl<S: time::Clock> Clock for Uptime<S> {
     }
 }
 
-/// This time in units of 2^-32 seconds, rounded down.
+/// This time in units of 2^-32 seconds, rounded down. Whole seconds are shifted, since a quotient
+/// of 128 bits takes ten times as long as one of 64.
 pub(crate) fn units_of(span: Duration) -> u128
-    ensures { result ≡ as_nanos span * 2 ^ 32 / 10 ^ 9 }
+    ensures { result ≡ units_in span }
 {
-    (span.as_nanos() << 32) / 1_000_000_000
+    let fraction = (u64::from(span.subsec_nanos()) << 32) / 1_000_000_000;
+    (u128::from(span.as_secs()) << 32) + u128::from(fraction)
 }
 
 #[cfg(test)]
