@@ -1,4 +1,4 @@
--- Worked times of a software clock, and worked updates and ticks of a discipline.
+-- Constants by their numbers (RFC 5905, section 11.3 and appendix A), and worked times of a software clock, updates and ticks of a discipline.
 use Rattle.std.proofs.Common.{◌≡◌, ◌+◌, ◌-◌, ◌*◌, ◌^◌, ℤ, pos, negsuc, refl}
 use Rattle.discipline.specs.SoftClock.{clock_time}
 use Rattle.discipline.specs.Feedback.{LoopState, change_of, updated}
@@ -8,6 +8,26 @@ use Rattle.discipline.specs.declared.soft_clock.SoftClock.{SoftClock}
 use Rattle.discipline.specs.declared.state.State.{State}
 use Rattle.discipline.specs.declared.state.State.TheVariants.{Nset, Freq, Spik, Sync}
 use Rattle.discipline.specs.declared.feedback.Change.TheVariants as change
+use Rattle.discipline.specs.declared.frequency.TheConstants.{MAX_FREQUENCY}
+use Rattle.discipline.specs.declared.slew.TheConstants.{MAX_SHARE}
+use Rattle.discipline.specs.declared.transitions.TheConstants.{PANIC_THRESHOLD, STEPOUT, STEP_THRESHOLD}
+
+-- 0.128, 900 and 1000 seconds
+STEP_THRESHOLD-is : STEP_THRESHOLD ≡ 549755813
+STEP_THRESHOLD-is = refl
+
+STEPOUT-is : STEPOUT ≡ 3865470566400
+STEPOUT-is = refl
+
+PANIC_THRESHOLD-is : PANIC_THRESHOLD ≡ 4294967296000
+PANIC_THRESHOLD-is = refl
+
+-- 500 parts per million, and 64 seconds of them
+MAX_FREQUENCY-is : MAX_FREQUENCY ≡ pos 2147483
+MAX_FREQUENCY-is = refl
+
+MAX_SHARE-is : MAX_SHARE ≡ pos 137438912
+MAX_SHARE-is = refl
 
 -- a clock that begins at 1 January 1970 (RFC 5905, figure 4)
 abbrev clock : ℤ → ℤ → SoftClock
@@ -75,11 +95,17 @@ spike = refl
 spiked : updated (after_update Sync) (pos 549755814) 6 (64 * 2 ^ 32) ≡ record (after_update Spik) { since = 64 * 2 ^ 32 }
 spiked = refl
 
--- it is believed after 900 seconds
+-- it is believed after 900 seconds, and no moment before
+not_believed : change_of (after_update Spik) (pos 549755814) (900 * 2 ^ 32 - 1) ≡ change.Ignored
+not_believed = refl
+
 believed : change_of (after_update Spik) (pos 549755814) (900 * 2 ^ 32) ≡ change.Stepped
 believed = refl
 
--- over 1000 seconds is a panic, but a step where no time was set yet
+-- 1000 seconds are no panic, and a unit more is one, but where no time was set yet
+at_the_threshold : change_of (after_update Freq) (negsuc (1000 * 2 ^ 32 - 1)) 0 ≡ change.Ignored
+at_the_threshold = refl
+
 panic : change_of (after_update Freq) (negsuc (1000 * 2 ^ 32)) 0 ≡ change.Panic
 panic = refl
 

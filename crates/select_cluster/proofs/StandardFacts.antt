@@ -1,9 +1,14 @@
 -- Worked values: three intervals from 0 to 2, 1 to 3 and 2 to 4, and the mean of two offsets.
 use Rattle.std.proofs.Common.{◌≡◌, ℕ, ℤ, List, [], ◌∷◌, pos, negsuc, refl}
 use Rattle.select_cluster.specs.declared.candidates.Candidate.{Candidate}
+use Rattle.select_cluster.specs.declared.candidates.TheConstants.{MAX_CANDIDATES}
 use Rattle.select_cluster.specs.Clustering.{survivors_of}
 use Rattle.select_cluster.specs.Combining.{combined_offset}
 use Rattle.select_cluster.specs.Selecting.{count_at, outside}
+
+-- as many servers as a configuration has (our own rule)
+MAX_CANDIDATES-is : MAX_CANDIDATES ≡ 32
+MAX_CANDIDATES-is = refl
 
 -- a candidate by its peer number, offset and distance
 abbrev candidate : ℕ → ℤ → ℕ → Candidate

@@ -17,87 +17,87 @@ pub struct Combined {
 }
 
 /// How much a survivor weighs: 2^48 over its distance, at least 1.
-fn weigh(c: Candidate) -> u64
-    ensures value { result ≡ weight_of c }
+fn weigh(candidate: Candidate) -> u64
+    ensures value { result ≡ weight_of candidate }
     ensures some { 0 < result }
     ensures most { result ≤ 2 ^ 48 }
 {
-    ((1 << 48) / c.distance.max(1)).max(1)
+    ((1 << 48) / candidate.distance.max(1)).max(1)
 }
 
 /// The offset of a survivor as often as it weighs.
-fn weigh_offset(c: Candidate) -> i128
-    ensures value { result ≡ pos (weight_of c) *ℤ c.offset.0 }
-    ensures low { neg_ℤ (pos (weight_of c * 2 ^ 63)) ≤ℤ result }
-    ensures high { result ≤ℤ pos (weight_of c * (2 ^ 63 - 1)) }
-    ensures light { weight_of c ≤ 2 ^ 48 }
+fn weigh_offset(candidate: Candidate) -> i128
+    ensures value { result ≡ pos (weight_of candidate) *ℤ candidate.offset.0 }
+    ensures low { neg_ℤ (pos (weight_of candidate * 2 ^ 63)) ≤ℤ result }
+    ensures high { result ≤ℤ pos (weight_of candidate * (2 ^ 63 - 1)) }
+    ensures light { weight_of candidate ≤ 2 ^ 48 }
     ensures fits { FitsSigned w128 result }
 {
-    i128::from(weigh(c)) * i128::from(c.offset.0)
+    i128::from(weigh(candidate)) * i128::from(candidate.offset.0)
 }
 
 /// The sum of the weights.
-fn sum_weights(c: &[Candidate]) -> u64
-    requires { length c.now ≤ MAX_CANDIDATES }
-    ensures value { result ≡ sum_by weight_of c.now }
-    ensures some { 0 < length c.now → 0 < result }
+fn sum_weights(candidates: &[Candidate]) -> u64
+    requires { length candidates.now ≤ MAX_CANDIDATES }
+    ensures value { result ≡ sum_by weight_of candidates.now }
+    ensures some { 0 < length candidates.now → 0 < result }
     ensures most { result ≤ 2 ^ 53 }
 {
     let mut weights = 0;
-    for candidate in c {
+    for candidate in candidates {
         weights += weigh(*candidate);
     }
     weights
 }
 
 /// The sum of the offsets, each as often as its survivor weighs: 32 stay within 128 bits.
-fn sum_offsets(c: &[Candidate]) -> i128
-    requires { length c.now ≤ MAX_CANDIDATES }
-    ensures value { result ≡ weighted c.now }
-    ensures low { neg_ℤ (pos (sum_by weight_of c.now * 2 ^ 63)) ≤ℤ result }
-    ensures high { result ≤ℤ pos (sum_by weight_of c.now * (2 ^ 63 - 1)) }
+fn sum_offsets(candidates: &[Candidate]) -> i128
+    requires { length candidates.now ≤ MAX_CANDIDATES }
+    ensures value { result ≡ weighted candidates.now }
+    ensures low { neg_ℤ (pos (sum_by weight_of candidates.now * 2 ^ 63)) ≤ℤ result }
+    ensures high { result ≤ℤ pos (sum_by weight_of candidates.now * (2 ^ 63 - 1)) }
     ensures fits { FitsSigned w128 result }
 {
     let mut total = 0;
-    for candidate in c {
+    for candidate in candidates {
         total += weigh_offset(*candidate);
     }
     total
 }
 
 /// The offsets' mean by weight, toward zero.
-fn mean_offset(c: &[Candidate]) -> Span
-    requires some { 0 < length c.now }
-    requires few { length c.now ≤ MAX_CANDIDATES }
-    ensures { result.0 ≡ combined_offset c.now }
+fn mean_offset(candidates: &[Candidate]) -> Span
+    requires some { 0 < length candidates.now }
+    requires few { length candidates.now ≤ MAX_CANDIDATES }
+    ensures { result.0 ≡ combined_offset candidates.now }
 {
-    Span((sum_offsets(c) / i128::from(sum_weights(c))) as i64)
+    Span((sum_offsets(candidates) / i128::from(sum_weights(candidates))) as i64)
 }
 
 /// The root of the mean square of how far the offsets are from the first.
-fn mean_jitter(c: &[Candidate]) -> u64
-    requires some { 0 < length c.now }
-    requires few { length c.now ≤ MAX_CANDIDATES }
-    ensures value { result ≡ combined_jitter c.now }
+fn mean_jitter(candidates: &[Candidate]) -> u64
+    requires some { 0 < length candidates.now }
+    requires few { length candidates.now ≤ MAX_CANDIDATES }
+    ensures value { result ≡ combined_jitter candidates.now }
     ensures capped { result ≤ CAP }
 {
-    isqrt(sum_squares(c[0].offset, c) / c.len() as u128)
+    isqrt(sum_squares(candidates[0].offset, candidates) / candidates.len() as u128)
 }
 
 /// Combines the offsets of the survivors, of which there has to be one.
-pub fn combine(s: &Survivors) -> Combined
-    requires { 0 < length s.now }
-    ensures offset { result.offset.0 ≡ combined_offset s.now }
-    ensures jitter { result.jitter ≡ combined_jitter s.now }
-    ensures system { result.system ≡ system_peer s.now }
+pub fn combine(survivors: &Survivors) -> Combined
+    requires { 0 < length survivors.now }
+    ensures offset { result.offset.0 ≡ combined_offset survivors.now }
+    ensures jitter { result.jitter ≡ combined_jitter survivors.now }
+    ensures system { result.system ≡ system_peer survivors.now }
     ensures capped { result.jitter ≤ CAP }
-    ensures member { (first : Candidate) × Contains s.now first × (first.peer ≡ result.system) }
+    ensures member { (first : Candidate) × Contains survivors.now first × (first.peer ≡ result.system) }
 {
-    let survivors = s.as_slice();
+    let one = survivors.as_slice();
     Combined {
-        offset: mean_offset(survivors),
-        jitter: mean_jitter(survivors),
-        system: survivors[0].peer,
+        offset: mean_offset(one),
+        jitter: mean_jitter(one),
+        system: one[0].peer,
     }
 }
 

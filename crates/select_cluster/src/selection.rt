@@ -15,20 +15,20 @@ pub struct Interval {
 }
 
 /// Whether the candidate's offset is inside.
-pub fn is_inside(c: Candidate, i: Interval) -> bool
-    ensures { result ≡ inside i.lo i.hi c }
+pub fn is_inside(candidate: Candidate, interval: Interval) -> bool
+    ensures { result ≡ inside interval.lo interval.hi candidate }
 {
-    let offset = i128::from(c.offset.0);
-    i.lo <= offset && offset <= i.hi
+    let offset = i128::from(candidate.offset.0);
+    interval.lo <= offset && offset <= interval.hi
 }
 
 /// How many offsets are outside.
-fn count_outside(c: &[Candidate], i: Interval) -> usize
-    ensures { result ≡ outside i.lo i.hi c.now }
+fn count_outside(candidates: &[Candidate], interval: Interval) -> usize
+    ensures { result ≡ outside interval.lo interval.hi candidates.now }
 {
     let mut count = 0;
-    for candidate in c {
-        if !is_inside(*candidate, i) {
+    for candidate in candidates {
+        if !is_inside(*candidate, interval) {
             count += 1;
         }
     }
@@ -36,43 +36,53 @@ fn count_outside(c: &[Candidate], i: Interval) -> usize
 }
 
 /// The least and the greatest endpoint that all but `f` intervals have in them.
-fn find_agreed(c: &[Candidate], lows: &[u128], highs: &[u128], f: usize) -> Option<Interval>
-    requires few { length c.now ≤ MAX_CANDIDATES }
-    requires minority { 2 * f < length c.now }
-    requires low_ends { AreSortedEnds End.Low c.now lows.now }
-    requires high_ends { AreSortedEnds End.High c.now highs.now }
-    ensures found { IfSome result (λ i. (i.false_count ≡ f)
-        × IsLeastAgreed c.now (length c.now - f) i.lo
-        × IsGreatestAgreed c.now (length c.now - f) i.hi) }
-    ensures none { IfNone result ((x : ℤ) → ¬ IsAgreed c.now (length c.now - f) x) }
+fn find_agreed(
+    candidates: &[Candidate],
+    lows: &[u128],
+    highs: &[u128],
+    false_count: usize,
+) -> Option<Interval>
+    requires few { length candidates.now ≤ MAX_CANDIDATES }
+    requires minority { 2 * false_count < length candidates.now }
+    requires low_ends { AreSortedEnds End.Low candidates.now lows.now }
+    requires high_ends { AreSortedEnds End.High candidates.now highs.now }
+    ensures found { IfSome result (λ i. (i.false_count ≡ false_count)
+        × IsLeastAgreed candidates.now (length candidates.now - false_count) i.lo
+        × IsGreatestAgreed candidates.now (length candidates.now - false_count) i.hi) }
+    ensures none { IfNone result ((x : ℤ) → ¬ IsAgreed candidates.now (length candidates.now - false_count) x) }
 {
-    let gap = c.len() - f - 1;
-    match first_meeting(lows, highs, gap, f) {
+    let gap = candidates.len() - false_count - 1;
+    match first_meeting(lows, highs, gap, false_count) {
         None => None,
         Some(first) => {
-            let last = last_meeting(lows, highs, gap, f, first);
+            let last = last_meeting(lows, highs, gap, false_count, first);
             Some(Interval {
                 lo: lower(lows[first + gap]),
                 hi: lower(highs[last]),
-                false_count: f as u32,
+                false_count: false_count as u32,
             })
         }
     }
 }
 
 /// The interval with `f` falsetickers, where that number is accepted.
-fn accept(c: &[Candidate], lows: &[u128], highs: &[u128], f: usize) -> Option<Interval>
-    requires few { length c.now ≤ MAX_CANDIDATES }
-    requires minority { 2 * f < length c.now }
-    requires low_ends { AreSortedEnds End.Low c.now lows.now }
-    requires high_ends { AreSortedEnds End.High c.now highs.now }
-    ensures found { IfSome result (λ i. (i.false_count ≡ f) × IsAccepted c.now f i.lo i.hi) }
-    ensures none { IfNone result ((lo hi : ℤ) → ¬ IsAccepted c.now f lo hi) }
+fn accept(
+    candidates: &[Candidate],
+    lows: &[u128],
+    highs: &[u128],
+    false_count: usize,
+) -> Option<Interval>
+    requires few { length candidates.now ≤ MAX_CANDIDATES }
+    requires minority { 2 * false_count < length candidates.now }
+    requires low_ends { AreSortedEnds End.Low candidates.now lows.now }
+    requires high_ends { AreSortedEnds End.High candidates.now highs.now }
+    ensures found { IfSome result (λ i. (i.false_count ≡ false_count) × IsAccepted candidates.now false_count i.lo i.hi) }
+    ensures none { IfNone result ((lo hi : ℤ) → ¬ IsAccepted candidates.now false_count lo hi) }
 {
-    match find_agreed(c, lows, highs, f) {
+    match find_agreed(candidates, lows, highs, false_count) {
         None => None,
         Some(i) => {
-            if count_outside(c, i) <= f {
+            if count_outside(candidates, i) <= false_count {
                 Some(i)
             } else {
                 None
@@ -82,15 +92,15 @@ fn accept(c: &[Candidate], lows: &[u128], highs: &[u128], f: usize) -> Option<In
 }
 
 /// The interval with the least number of falsetickers that is accepted: None exactly where none is.
-pub fn select(c: &[Candidate]) -> Option<Interval>
-    requires { length c.now ≤ MAX_CANDIDATES }
-    ensures selected { IfSome result (λ i. IsSelected c.now i) }
-    ensures none { IfNone result ((f : ℕ) (lo hi : ℤ) → ¬ IsAccepted c.now f lo hi) }
+pub fn select(candidates: &[Candidate]) -> Option<Interval>
+    requires { length candidates.now ≤ MAX_CANDIDATES }
+    ensures selected { IfSome result (λ i. IsSelected candidates.now i) }
+    ensures none { IfNone result ((f : ℕ) (lo hi : ℤ) → ¬ IsAccepted candidates.now f lo hi) }
 {
-    let lows = sorted_ends(c, End::Low);
-    let highs = sorted_ends(c, End::High);
-    for f in 0..c.len().div_ceil(2) {
-        if let Some(i) = accept(c, &lows, &highs, f) {
+    let lows = sorted_ends(candidates, End::Low);
+    let highs = sorted_ends(candidates, End::High);
+    for f in 0..candidates.len().div_ceil(2) {
+        if let Some(i) = accept(candidates, &lows, &highs, f) {
             return Some(i);
         }
     }

@@ -26,4 +26,4 @@ returns c =
     ap (λ z. cast_signed w64 (cast_unsigned w64 z)) (quotient c)
     ∙ to_z-of_z w64 (int_div c.sum_offsets.result (pos c.sum_weights.result)) (quotient_fits c)
     ∙ ap (λ z. int_div z (pos c.sum_weights.result)) c.sum_offsets.ensures.value
-    ∙ ap (λ w. int_div (weighted c.args.c.now) (pos w)) c.sum_weights.ensures.value
+    ∙ ap (λ w. int_div (weighted c.args.candidates.now) (pos w)) c.sum_weights.ensures.value

@@ -4,6 +4,6 @@ use Rattle.select_cluster.proofs.selection.count_outside.Given as goal
 
 abbrev pub invariant-loop-candidate : goal.invariant-loop-candidate
 invariant-loop-candidate l = record {
-  counted : l.count ≡ outside l.i.lo l.i.hi (take l.candidate-index l.c);
+  counted : l.count ≡ outside l.interval.lo l.interval.hi (take l.candidate-index l.candidates);
   fits : l.count ≤ l.candidate-index;
 }

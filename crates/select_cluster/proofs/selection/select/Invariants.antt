@@ -3,4 +3,4 @@ use Rattle.select_cluster.specs.Selecting.{IsAccepted}
 use Rattle.select_cluster.proofs.selection.select.Given as goal
 
 abbrev pub invariant-loop-f : goal.invariant-loop-f
-invariant-loop-f l = (g : ℕ) (lo hi : ℤ) → g < l.f → ¬ IsAccepted l.c g lo hi
+invariant-loop-f l = (g : ℕ) (lo hi : ℤ) → g < l.f → ¬ IsAccepted l.candidates g lo hi
