@@ -1,5 +1,5 @@
 -- IP addresses of both families, as octets, as bits and as numbers (RFC 791, section 3.2; RFC 4291, section 2).
-use Rattle.std.specs.Prelude.{◌≡◌, ℕ, ◌^◌, ◌<◌, Bool, false, length, All, bytes_eq}
+use Rattle.std.specs.Prelude.{◌≡◌, ℕ, ◌^◌, ◌<◌, ◌==◌, ◌&&◌, Bool, false, length, All, bytes_eq}
 use Rattle.std.specs.Int.{w32, w128, from_be_bytes}
 use Rattle.net_addr.specs.declared.addr.Addr.{Addr}
 use Rattle.net_addr.specs.declared.addr.Ip.{Ip}
@@ -22,10 +22,18 @@ same_ip (V6 these) (V6 those) = bytes_eq these those
 same_ip (V4 these) (V6 those) = false
 same_ip (V6 these) (V4 those) = false
 
+-- two addresses are the same IP address and the same port
+abbrev pub same_addr : Addr → Addr → Bool
+same_addr one other = same_ip one.ip other.ip && (one.port == other.port)
+
 -- how many bits an address of this family has
 abbrev pub bits_of : Ip → ℕ
 bits_of (V4 octets) = 32
 bits_of (V6 octets) = 128
+
+-- two addresses are of one family
+abbrev pub same_family : Ip → Ip → Bool
+same_family one other = bits_of one == bits_of other
 
 -- the address as a number: its first octet is the highest
 unfoldable pub number_of : Ip → ℕ

@@ -5,14 +5,11 @@ use Rattle.net_addr.specs.declared.addr.Ip.{Ip}
 use Rattle.net_addr.specs.declared.addr.Ip.TheVariants.{V4, V6}
 use Rattle.net_addr.specs.declared.prefix.Prefix.{Prefix}
 use Rattle.net_addr.specs.Addresses.{bits_of, number_of}
+pub use Rattle.net_addr.specs.Addresses.{same_family}
 
 -- the address without its last bits: the number of its first `length` bits
 abbrev pub first_bits : ℕ → Ip → ℕ
 first_bits length ip = number_of ip / 2 ^ (bits_of ip - length)
-
--- two addresses are of one family
-abbrev pub same_family : Ip → Ip → Bool
-same_family one other = bits_of one == bits_of other
 
 -- the prefix has the address: they are of one family and agree in the first `length` bits
 abbrev pub has_ip : Prefix → Ip → Bool

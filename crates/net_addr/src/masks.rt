@@ -3,8 +3,7 @@ ghost use Rattle.net_addr.specs.Addresses.{bits_of, number_of};
 ghost use Rattle.net_addr.specs.Prefixes.{has_ip, numbered, without_host_bits, IsMask};
 ghost use Rattle.net_addr.specs.declared.addr.Ip.{Ip};
 
-use crate::addr::Ip;
-use crate::matching::{number_v4, number_v6};
+use crate::addr::{Ip, number_v4, number_v6};
 use crate::prefix::Prefix;
 
 /// The prefix of `length` bits that has the address: its bits after the first `length` are cleared.

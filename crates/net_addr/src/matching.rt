@@ -1,14 +1,15 @@
-ghost use Rattle.std.specs.Prelude.{◌≡◌, ◌≤◌, ◌<◌, ◌^◌, ◌==◌};
-ghost use Rattle.net_addr.specs.Addresses.{number_of};
+ghost use Rattle.std.specs.Prelude.{◌≡◌, ◌≤◌, ◌==◌, true};
+ghost use Rattle.net_addr.specs.Addresses.{same_family};
 ghost use Rattle.net_addr.specs.Prefixes.{first_bits, has_ip};
 ghost use Rattle.net_addr.specs.declared.addr.Ip.{Ip};
 
-use crate::addr::Ip;
+use crate::addr::{Ip, number_v4, number_v6};
 use crate::prefix::Prefix;
 
 /// Whether the address is of the prefix's family and begins with its bits.
 pub fn in_prefix(ip: &Ip, prefix: &Prefix) -> bool
-    ensures { result ≡ has_ip prefix.now ip.now }
+    ensures value { result ≡ has_ip prefix.now ip.now }
+    ensures all { prefix.now.length ≡ 0 → result ≡ same_family ip.now prefix.now.ip }
 {
     match (ip, &prefix.ip) {
         (Ip::V4(octets), Ip::V4(of_prefix)) => { agree_v4(*octets, *of_prefix, prefix.length) }
@@ -20,7 +21,8 @@ pub fn in_prefix(ip: &Ip, prefix: &Prefix) -> bool
 /// Whether two addresses agree in their first `length` bits.
 fn agree_v4(these: [u8; 4], those: [u8; 4], length: u8) -> bool
     requires { length ≤ 32 }
-    ensures { result ≡ (first_bits length (Ip.V4 these) == first_bits length (Ip.V4 those)) }
+    ensures value { result ≡ (first_bits length (Ip.V4 these) == first_bits length (Ip.V4 those)) }
+    ensures all { length ≡ 0 → result ≡ true }
 {
     let beyond = 32 - u32::from(length);
     u64::from(number_v4(these)) >> beyond == u64::from(number_v4(those)) >> beyond
@@ -29,7 +31,8 @@ fn agree_v4(these: [u8; 4], those: [u8; 4], length: u8) -> bool
 /// Whether two addresses agree in their first `length` bits.
 fn agree_v6(these: [u8; 16], those: [u8; 16], length: u8) -> bool
     requires { length ≤ 128 }
-    ensures { result ≡ (first_bits length (Ip.V6 these) == first_bits length (Ip.V6 those)) }
+    ensures value { result ≡ (first_bits length (Ip.V6 these) == first_bits length (Ip.V6 those)) }
+    ensures all { length ≡ 0 → result ≡ true }
 {
     let these = number_v6(these);
     let those = number_v6(those);
@@ -38,20 +41,4 @@ fn agree_v6(these: [u8; 16], those: [u8; 16], length: u8) -> bool
     }
     let beyond = 128 - u32::from(length);
     these >> beyond == those >> beyond
-}
-
-#[tactic(auto, unfolding(crate::specs::Addresses::number_of))]
-pub(crate) fn number_v4(octets: [u8; 4]) -> u32
-    ensures value { result ≡ number_of (Ip.V4 octets) }
-    ensures bound { number_of (Ip.V4 octets) < 2 ^ 32 }
-{
-    u32::from_be_bytes(octets)
-}
-
-#[tactic(auto, unfolding(crate::specs::Addresses::number_of))]
-pub(crate) fn number_v6(octets: [u8; 16]) -> u128
-    ensures value { result ≡ number_of (Ip.V6 octets) }
-    ensures bound { number_of (Ip.V6 octets) < 2 ^ 128 }
-{
-    u128::from_be_bytes(octets)
 }

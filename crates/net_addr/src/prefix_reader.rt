@@ -4,7 +4,7 @@ ghost use Rattle.net_addr.specs.Spelling.{NamesBits, SpellsPrefix};
 ghost use Rattle.net_addr.specs.declared.addr.Ip.{Ip};
 ghost use Rattle.net_addr.specs.declared.prefix.Prefix.{Prefix};
 
-use crate::addr::Ip;
+use crate::addr::{Ip, bits};
 use crate::ip_reader::read_ip;
 use crate::masks::prefix_of;
 use crate::numbers::cut_number;
@@ -33,24 +33,14 @@ fn bits_in(text: &[u8]) -> Option<(Ip, u8)>
         → result ≡ Some (ip, length) }
 {
     if let Some(ip) = read_ip(text) {
-        return Some((ip, all_bits(&ip)));
+        return Some((ip, bits(&ip)));
     }
     let Some((front, length)) = cut_number(text, b'/') else {
         return None;
     };
     match read_ip(front) {
-        Some(ip) if length <= u16::from(all_bits(&ip)) => Some((ip, length as u8)),
+        Some(ip) if length <= u16::from(bits(&ip)) => Some((ip, length as u8)),
         _ => None,
-    }
-}
-
-/// How many bits an address of this family has.
-fn all_bits(ip: &Ip) -> u8
-    ensures { result ≡ bits_of ip.now }
-{
-    match ip {
-        Ip::V4(_) => 32,
-        Ip::V6(_) => 128,
     }
 }
 

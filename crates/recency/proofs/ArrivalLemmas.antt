@@ -12,7 +12,7 @@ use Rattle.recency.specs.declared.visit.Touched.{Touched}
 use Rattle.recency.specs.declared.visit.Touched.TheVariants.{Known, Added, Replaced, Untracked}
 use Rattle.recency.specs.Arrivals.{HasRoom, admission, admitted, has_aged, new_row, replaced, row_after, rows_by, touched_rows}
 use Rattle.recency.specs.Rows.{AreBefore, AreRows, AreUpTo, IsClientList, IsDistinct, IsRising, IsRow, find_row, others}
-use Rattle.recency.proofs.AddressLemmas.{same_ip-eq}
+use Rattle.net_addr.proofs.AddressLemmas.{same_ip-eq}
 use Rattle.recency.proofs.ListLemmas.{AllByRecursion-append, AllByRecursion-filter, AllByRecursion-weaker}
 use Rattle.recency.proofs.RowLemmas.{IsDistinct-filter, IsDistinct-push, IsNoneOf, IsRising-filter, IsRising-push, find_row-none, find_row-some, length-others, others-none}
 

@@ -1,4 +1,3 @@
-pub mod AddressLemmas
 pub mod ArrivalLemmas
 pub mod ListLemmas
 pub mod PlaceLemmas

@@ -8,7 +8,7 @@ use Rattle.net_addr.specs.declared.addr.Ip.{Ip}
 use Rattle.recency.specs.declared.row.Row.{Row}
 use Rattle.recency.specs.Places.{place_of}
 use Rattle.recency.specs.Rows.{IsDistinct, after, find_row, oldest, others}
-use Rattle.recency.proofs.AddressLemmas.{same_ip-eq}
+use Rattle.net_addr.proofs.AddressLemmas.{same_ip-eq}
 use Rattle.recency.proofs.RowLemmas.{IsNoneOf, others-all}
 
 -- the place of a client is the first one whose row is the client's, or the end

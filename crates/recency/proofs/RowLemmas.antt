@@ -8,7 +8,7 @@ use Rattle.net_addr.specs.declared.addr.Ip.{Ip}
 use Rattle.recency.specs.declared.limits.Limits.{Limits}
 use Rattle.recency.specs.declared.row.Row.{Row}
 use Rattle.recency.specs.Rows.{AreBefore, AreRows, AreUpTo, IsClientList, IsDistinct, IsRising, IsRow, find_row, others, told_row, told_rows}
-use Rattle.recency.proofs.AddressLemmas.{same_ip-sym}
+use Rattle.net_addr.proofs.AddressLemmas.{same_ip-sym}
 use Rattle.recency.proofs.ListLemmas.{AllByRecursion-append, AllByRecursion-filter, AllByRecursion-map, length-filter-le}
 
 -- no row is of a client

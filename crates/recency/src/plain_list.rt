@@ -10,7 +10,7 @@ use crate::reading::{admission, aged, place_of, row_at};
 use crate::row::Row;
 use crate::steps::Steps;
 use crate::visit::{Touched, Visit};
-use net_addr::{Ip, same_ip};
+use net_addr::{Ip, is_same_ip};
 use std::alloc::{AllocError, Global};
 use std::marker::Model;
 use std::sync::ledger::Ledger;
@@ -193,7 +193,7 @@ fn tell_in(rows: &mut Vec<Row>, ip: &Ip, stamp: u64)
 fn tell_row(row: &mut Row, ip: &Ip, stamp: u64)
     ensures { row.new ≡ told_row ip.now stamp row.old }
 {
-    if same_ip(&row.ip, ip) {
+    if is_same_ip(&row.ip, ip) {
         row.told = Some(stamp);
     }
 }

@@ -7,7 +7,7 @@ use crate::limits::Limits;
 use crate::row::Row;
 use crate::steps::Steps;
 use crate::visit::Touched;
-use net_addr::{Ip, same_ip};
+use net_addr::{Ip, is_same_ip};
 use std::sync::ledger::Ledger;
 
 /// Reads the row at a place, which is one step; None where there is no such place.
@@ -29,7 +29,7 @@ pub(crate) fn place_of<L: Ledger>(rows: &[Row], ip: &Ip, steps: &mut Steps<L>) -
     for place in 0..rows.len() {
         let row = &rows[place];
         steps.tick();
-        if same_ip(&row.ip, ip) {
+        if is_same_ip(&row.ip, ip) {
             return place;
         }
     }
