@@ -1,2 +1,4 @@
+pub mod FirstOctetLemmas
+pub mod OctetLemmas
 pub mod Spelling
 mod StandardFacts

@@ -1,5 +1,5 @@
 -- The header at the places of 48 octets is the one header that spells them.
-use Rattle.std.proofs.Common.{◌≡◌, ℕ, zero, suc, ◌+◌, ◌^◌, ◌<◌, ◌≤◌, List, [], ◌∷◌, ◌++◌, length, take, drop, slice_index, w8, refl, sym, ap, ◌∙◌, arith, take-add, length-take, length-drop, rules, lit<, append_assoc, length-append, take_at, None}
+use Rattle.std.proofs.Common.{◌≡◌, ℕ, zero, suc, ◌+◌, ◌^◌, ◌<◌, ◌≤◌, List, [], ◌∷◌, ◌++◌, length, take, drop, slice_index, w8, refl, sym, ap, ◌∙◌, arith, take-add, length-take, length-drop, rules, append_assoc, length-append, take_at, None}
 use Rattle.std.proofs.lemmas.List.{get_or-drop, length-take-le, take-append-drop, take_all}
 use Rattle.std.proofs.lemmas.Nat.{be_bytes_4, be_bytes_8}
 use Rattle.std.proofs.lemmas.Int.{of_z-to_z, to_z-of_z}
@@ -11,21 +11,8 @@ use Rattle.ntp_packet.specs.declared.packet.Header.{Header}
 use Rattle.ntp_packet.specs.declared.packet.TheConstants.{HEADER_LEN}
 use Rattle.ntp_packet.specs.Packet.{Fits, IsPacket, IsPacketVersion, IsPacketMode, fault_of, spelled_header, first_octet_of, first_word_of, leap_of, version_of, mode_of}
 use Rattle.ntp_packet.specs.Fields.{header_at}
-
--- each item of the list is an octet
-abbrev pub AreOctets : List ℕ → Type 0
-AreOctets xs = (i : ℕ) → slice_index xs i < 2 ^ 8
-
--- the items past a place are octets too
-AreOctets-drop : (n : ℕ) (xs : List ℕ) → AreOctets xs → AreOctets (drop n xs)
-AreOctets-drop n xs small i = rw (get_or-drop n xs i 0) (small (n + i))
-
--- the items before a place are octets too
-AreOctets-take : (n : ℕ) (xs : List ℕ) → AreOctets xs → AreOctets (take n xs)
-AreOctets-take zero xs small i = lit< tt
-AreOctets-take (suc n) [] small i = lit< tt
-AreOctets-take (suc n) (x ∷ xs) small zero = small 0
-AreOctets-take (suc n) (x ∷ xs) small (suc i) = AreOctets-take n xs (λ k. small (suc k)) i
+use Rattle.ntp_packet.proofs.FirstOctetLemmas.{leap_of-first_octet, version_of-first_octet, mode_of-first_octet, first_octet-read}
+use Rattle.ntp_packet.proofs.OctetLemmas.{AreOctets, AreOctets-drop, AreOctets-take}
 
 -- each of four is an octet
 All-four : (a b c d : ℕ) → a < 2 ^ 8 → b < 2 ^ 8 → c < 2 ^ 8 → d < 2 ^ 8 → All (λ octet. octet < 2 ^ 8) (a ∷ b ∷ c ∷ d ∷ [])
@@ -89,8 +76,7 @@ Fits-header_at xs small =
 first_word-header_at : (xs : List ℕ) → 4 ≤ length xs → AreOctets xs → first_word_of (header_at xs) ≡ take 4 xs
 unfolding header_at
 first_word-header_at xs long small =
-    let first : slice_index xs 0 < 256 = small 0 in
-    let bits : first_octet_of (header_at xs) ≡ slice_index xs 0 = omega arith in
+    let bits : first_octet_of (header_at xs) ≡ slice_index xs 0 = first_octet-read xs in
     (λ i. bits i ∷ slice_index xs 1 ∷ of_z-to_z w8 (slice_index xs 2) (small 2) i ∷ of_z-to_z w8 (slice_index xs 3) (small 3) i ∷ [])
     ∙ sym (take-four xs long)
 
@@ -134,9 +120,9 @@ header_at-spelled_by h rest fits a b c d four =
     λ refid. (first_word_of h ++ big_bytes 4 h.root_delay.0 ++ big_bytes 4 h.root_disp.0 ++ refid
     ++ big_bytes 8 h.reference.0 ++ big_bytes 8 h.origin.0 ++ big_bytes 8 h.receive.0 ++ big_bytes 8 h.transmit.0) ++ rest in
     let octets : List ℕ = octets_by (a ∷ b ∷ c ∷ d ∷ []) in
-    let leap : leap_of octets ≡ h.leap = omega (arith, fits.leap, fits.version, fits.mode) in
-    let version : version_of octets ≡ h.version = omega (arith, fits.leap, fits.version, fits.mode) in
-    let mode : mode_of octets ≡ h.mode = omega (arith, fits.leap, fits.version, fits.mode) in
+    let leap : leap_of octets ≡ h.leap = leap_of-first_octet h.leap h.version h.mode (drop 1 octets) fits.version fits.mode in
+    let version : version_of octets ≡ h.version = version_of-first_octet h.leap h.version h.mode (drop 1 octets) fits.version fits.mode in
+    let mode : mode_of octets ≡ h.mode = mode_of-first_octet h.leap h.version h.mode (drop 1 octets) fits.mode in
     ap (λ refid. header_at (octets_by refid)) four ∙ (λ i. record {
       leap = leap i;
       version = version i;

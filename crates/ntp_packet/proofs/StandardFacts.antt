@@ -1,5 +1,7 @@
 -- Worked octets: a client's request and an unsynchronized server's reply (RFC 5905, sections 7.3 and 7.4).
 use Rattle.std.proofs.Common.{◌≡◌, ℕ, pos, negsuc, List, [], ◌∷◌, ◌++◌, take, drop, Some, None, refl}
+use Rattle.ntp_packet.specs.declared.leap_version_mode.TheConstants.{LEAP_UNSYNCHRONIZED, MIN_VERSION, CURRENT_VERSION, MODE_SYMMETRIC_ACTIVE, MODE_CLIENT, MODE_SERVER, MODE_BROADCAST, MODE_CONTROL}
+use Rattle.ntp_packet.specs.declared.packet.TheConstants.{HEADER_LEN, KISS_CODE_LEN, MAX_SYNCHRONIZED_STRATUM, UNSYNCHRONIZED_STRATUM}
 use Rattle.ntp_packet.specs.declared.packet.Header.{Header}
 use Rattle.ntp_packet.specs.declared.packet.PacketFault.TheVariants.{Short, BadVersion, BadMode}
 use Rattle.ntp_packet.specs.Packet.{spelled_header, leap_of, version_of, mode_of, fault_of}
@@ -95,3 +97,39 @@ version-fault = refl
 -- version 4 and mode 6, a control message
 mode-fault : fault_of (0x26 ∷ drop 1 request_octets) ≡ Some BadMode
 mode-fault = refl
+
+LEAP_UNSYNCHRONIZED-is : LEAP_UNSYNCHRONIZED ≡ 3
+LEAP_UNSYNCHRONIZED-is = refl
+
+MIN_VERSION-is : MIN_VERSION ≡ 1
+MIN_VERSION-is = refl
+
+CURRENT_VERSION-is : CURRENT_VERSION ≡ 4
+CURRENT_VERSION-is = refl
+
+MODE_SYMMETRIC_ACTIVE-is : MODE_SYMMETRIC_ACTIVE ≡ 1
+MODE_SYMMETRIC_ACTIVE-is = refl
+
+MODE_CLIENT-is : MODE_CLIENT ≡ 3
+MODE_CLIENT-is = refl
+
+MODE_SERVER-is : MODE_SERVER ≡ 4
+MODE_SERVER-is = refl
+
+MODE_BROADCAST-is : MODE_BROADCAST ≡ 5
+MODE_BROADCAST-is = refl
+
+MODE_CONTROL-is : MODE_CONTROL ≡ 6
+MODE_CONTROL-is = refl
+
+HEADER_LEN-is : HEADER_LEN ≡ 48
+HEADER_LEN-is = refl
+
+KISS_CODE_LEN-is : KISS_CODE_LEN ≡ 4
+KISS_CODE_LEN-is = refl
+
+MAX_SYNCHRONIZED_STRATUM-is : MAX_SYNCHRONIZED_STRATUM ≡ 15
+MAX_SYNCHRONIZED_STRATUM-is = refl
+
+UNSYNCHRONIZED_STRATUM-is : UNSYNCHRONIZED_STRATUM ≡ 16
+UNSYNCHRONIZED_STRATUM-is = refl

@@ -1,2 +1,3 @@
+pub mod FirstOctet
 pub mod Packet
 pub mod Fields

@@ -3,6 +3,16 @@ use fixed_time::{Ntp64, Short};
 /// The octets of a header.
 pub const HEADER_LEN: usize = 48;
 
+/// The octets of a kiss code, which stands in the reference identifier (RFC 5905, section 7.4).
+pub const KISS_CODE_LEN: usize = 4;
+
+/// The greatest stratum of a clock that is synchronized (RFC 5905, section 7.3, figure 11).
+pub const MAX_SYNCHRONIZED_STRATUM: u8 = 15;
+
+/// The stratum of a clock that is not synchronized (RFC 5905, section 7.3, figure 11). A packet has
+/// 0 in its place.
+pub const UNSYNCHRONIZED_STRATUM: u8 = 16;
+
 /// The header of an NTP packet, in the order of its octets (RFC 5905, section 7.3).
 #[derive(Clone, Copy, Debug, PartialEq, Eq)]
 pub struct Header {
@@ -23,7 +33,7 @@ pub struct Header {
     /// The dispersion that has grown up to the primary source.
     pub root_disp: Short,
     /// The reference identifier: a kiss code at stratum 0, a source's name at 1, an address above.
-    pub refid: [u8; 4],
+    pub refid: [u8; KISS_CODE_LEN],
     /// When the sender's clock was last set.
     pub reference: Ntp64,
     /// In a reply, when the request left its client.

@@ -1,8 +1,13 @@
 ghost use Rattle.std.specs.Prelude.{◌≡◌, ◌+◌, ◌≤◌, length, drop, None, Some, IfOk, OnOk, MatchResult};
 ghost use Rattle.byteorder.specs.Endian.{big_number};
-ghost use Rattle.ntp_packet.specs.Packet.{IsPacket, Fits, fault_of, leap_of, version_of, mode_of};
+ghost use Rattle.ntp_packet.specs.Packet.{IsPacket, Fits, fault_of};
+ghost use Rattle.ntp_packet.specs.FirstOctet.{version_of, mode_of};
 ghost use Rattle.ntp_packet.specs.Fields.{header_at};
 
+use crate::leap_version_mode::{
+    CURRENT_VERSION, MIN_VERSION, MODE_BROADCAST, MODE_SYMMETRIC_ACTIVE, leap_in, mode_in,
+    version_in,
+};
 use crate::packet::{HEADER_LEN, Header, PacketFault};
 use byteorder::{BigEndian, ByteOrder};
 use fixed_time::{Ntp64, Short};
@@ -33,9 +38,9 @@ fn first_fault(bytes: &[u8]) -> Option<PacketFault>
 {
     if bytes.len() < HEADER_LEN {
         Some(PacketFault::Short)
-    } else if !(1..=4).contains(&version_in(bytes)) {
+    } else if !(MIN_VERSION..=CURRENT_VERSION).contains(&version_in(bytes)) {
         Some(PacketFault::BadVersion)
-    } else if !(1..=5).contains(&mode_in(bytes)) {
+    } else if !(MODE_SYMMETRIC_ACTIVE..=MODE_BROADCAST).contains(&mode_in(bytes)) {
         Some(PacketFault::BadMode)
     } else {
         None
@@ -61,27 +66,6 @@ fn header_in(bytes: &[u8]) -> Header
         receive: timestamp_in(bytes, 32),
         transmit: timestamp_in(bytes, 40),
     }
-}
-
-fn leap_in(bytes: &[u8]) -> u8
-    requires { 1 ≤ length bytes.now }
-    ensures { result ≡ leap_of bytes.now }
-{
-    bytes[0] >> 6
-}
-
-fn version_in(bytes: &[u8]) -> u8
-    requires { 1 ≤ length bytes.now }
-    ensures { result ≡ version_of bytes.now }
-{
-    (bytes[0] >> 3) & 0b111
-}
-
-fn mode_in(bytes: &[u8]) -> u8
-    requires { 1 ≤ length bytes.now }
-    ensures { result ≡ mode_of bytes.now }
-{
-    bytes[0] & 0b111
 }
 
 fn short_in(bytes: &[u8], at: usize) -> Short

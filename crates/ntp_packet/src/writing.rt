@@ -1,14 +1,15 @@
 ghost use Rattle.std.specs.Prelude.{◌≡◌, ◌+◌, ◌<◌, ◌≤◌, ◌^◌, length, take, List, ℕ, ◌++◌};
 ghost use Rattle.std.specs.List.{All};
 ghost use Rattle.byteorder.specs.Endian.{big_bytes};
-ghost use Rattle.ntp_packet.specs.Packet.{IsPacket, IsPacketVersion, IsPacketMode, spelled_header, first_octet_of, first_word_of, Fits};
+ghost use Rattle.ntp_packet.specs.Packet.{IsPacket, IsPacketVersion, IsPacketMode, spelled_header, first_word_of, Fits};
 
+use crate::leap_version_mode::first_octet;
 use crate::packet::{HEADER_LEN, Header};
 use byteorder::{BigEndian, ByteOrder};
 use fixed_time::{Ntp64, Short};
 
 /// The 48 octets of the header (RFC 5905, section 7.3).
-pub fn write(header: &Header) -> [u8; 48]
+pub fn write(header: &Header) -> [u8; HEADER_LEN]
     requires leap { header.now.leap ≤ 3 }
     requires version { header.now.version ≤ 7 }
     requires mode { header.now.mode ≤ 7 }
@@ -19,7 +20,7 @@ pub fn write(header: &Header) -> [u8; 48]
     octets_of(*header)
 }
 
-fn octets_of(header: Header) -> [u8; 48]
+fn octets_of(header: Header) -> [u8; HEADER_LEN]
     requires leap { header.leap ≤ 3 }
     requires version { header.version ≤ 7 }
     requires mode { header.mode ≤ 7 }
@@ -45,20 +46,11 @@ fn first_word(header: &Header) -> [u8; 4]
     ensures { result ≡ first_word_of header.now }
 {
     [
-        first_octet(header),
+        first_octet(header.leap, header.version, header.mode),
         header.stratum,
         header.poll.cast_unsigned(),
         header.precision.cast_unsigned(),
     ]
-}
-
-fn first_octet(header: &Header) -> u8
-    requires leap { header.now.leap ≤ 3 }
-    requires version { header.now.version ≤ 7 }
-    requires mode { header.now.mode ≤ 7 }
-    ensures { result ≡ first_octet_of header.now }
-{
-    (header.leap << 6) | (header.version << 3) | header.mode
 }
 
 fn put_four(octets: &mut [u8], at: usize, four: &[u8; 4])

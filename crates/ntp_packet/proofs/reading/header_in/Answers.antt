@@ -14,9 +14,9 @@ returns c =
     let poll = signed-kept c.cast_signed.result (slice_index bytes 2) (omega (arith, c.type_inv.bytes 2)) c.cast_signed.ensures in
     let precision = signed-kept c.cast_signed-2.result (slice_index bytes 3) (omega (arith, c.type_inv.bytes 3)) c.cast_signed-2.ensures in
     λ i. record {
-      leap = c.leap_in.ensures i;
-      version = c.version_in.ensures i;
-      mode = c.mode_in.ensures i;
+      leap = c.leap_in.ensures.value i;
+      version = c.version_in.ensures.value i;
+      mode = c.mode_in.ensures.value i;
       stratum = slice_index bytes 1;
       poll = poll i;
       precision = precision i;
