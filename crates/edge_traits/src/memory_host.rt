@@ -248,10 +248,10 @@ mod tests {
     use super::*;
     use crate::clock::Clock;
     use crate::memory_port::Incoming;
-    use crate::name::Name;
     use crate::octets::Octets;
     use crate::port::{Port, Taken};
     use crate::source::{Failed, read_whole};
+    use crate::text::Name;
     use net_addr::Ip;
     use std::test::Fail;
 

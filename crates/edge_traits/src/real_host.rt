@@ -262,7 +262,12 @@ mod tests {
     #[test]
     fn a_broken_system_gives_no_origin_and_no_salt(rt: HostRuntime) {
         assert!(rt; random_octets(&Broken).is_none());
-        let mut host = RealHost::of(rt, None, Broken.since_1970().ok(), random_octets(&Broken));
+        let mut host = RealHost::of(
+            rt,
+            None,
+            time::Clock::since_1970(&Broken).ok(),
+            random_octets(&Broken),
+        );
         assert_eq!(rt; host.origin(), Ntp64(0));
         assert_eq!(rt; host.salt().0, [0; 16]);
     }
