@@ -1,0 +1,93 @@
+"""Finds what README.md and docs/ say of functions and clauses that the sources do not have, and which promises of
+functions that other crates can call docs/CLAIMS.md does not name.
+
+A function is named `crate::function`, `crate::Type::method` or `crate::module::function`, and one that other
+crates cannot call has the word private before it. Its clauses may follow, as (`found`, `only`). Any other
+`crate::name` has to be a type, trait, constant or module. Prints each fault with its place, and fails where there
+is one.
+"""
+import re
+import sys
+
+sys.dont_write_bytecode = True
+import sources  # noqa: E402
+
+CLAIMS = sources.TOP / "docs" / "CLAIMS.md"
+CITED = re.compile(r"(private )?`([a-z]\w*)::((?:\w+::)*\w+)`(?: \(((?:`\w+`(?:, )?)+)\))?")
+
+
+class Names:
+    def __init__(self):
+        self.crates = set(sources.crates())
+        self.others = sources.kit_crates()
+        self.functions = {}
+        for function in sources.functions():
+            self.functions.setdefault((function.crate, function.owner, function.name), []).append(function)
+        self.items = {crate: sources.items(crate) for crate in self.crates}
+
+    def find(self, crate, path):
+        """The functions that a path names; a module in it is passed over."""
+        parts = path.split("::")
+        owner = parts[-2] if len(parts) > 1 and parts[-2][0].isupper() else ""
+        return self.functions.get((crate, owner, parts[-1]), [])
+
+    def faults(self, is_private, crate, path, clauses):
+        if crate in self.others:
+            return []
+        if crate not in self.crates:
+            return ["no crate is named `%s`" % crate]
+        found, name = self.find(crate, path), "`%s::%s`" % (crate, path)
+        if not found:
+            is_item = path.split("::")[-1] in self.items[crate] and not clauses and not is_private
+            return [] if is_item else ["nothing is named " + name]
+        if not is_private:
+            found = [function for function in found if function.public]
+            if not found:
+                return [name + " is private"]
+        return ["%s has no clause `%s`" % (name, clause) for clause in clauses
+                if not any(clause in function.clauses for function in found)]
+
+
+def cited(text):
+    """What a page cites, with the number of the line; lines between fences are passed over."""
+    is_fenced = False
+    for number, line in enumerate(text.split("\n"), 1):
+        if line.startswith("```"):
+            is_fenced = not is_fenced
+        elif not is_fenced:
+            for private, crate, path, clauses in CITED.findall(line):
+                yield number, bool(private), crate, path, re.findall(r"\w+", clauses)
+
+
+def stale(names):
+    """What the pages say that is not there."""
+    for page in [sources.TOP / "README.md"] + sorted((sources.TOP / "docs").glob("*.md")):
+        for number, is_private, crate, path, clauses in cited(page.read_text(encoding="utf-8")):
+            for fault in names.faults(is_private, crate, path, clauses):
+                yield "%s:%d: %s" % (page.relative_to(sources.TOP), number, fault)
+
+
+def unsaid(names):
+    """The promises that docs/CLAIMS.md does not name."""
+    said = set()
+    for _, _, crate, path, clauses in cited(CLAIMS.read_text(encoding="utf-8")):
+        for function in names.find(crate, path):
+            said.update((crate, function.owner, function.name, clause) for clause in clauses + [""])
+    for (crate, owner, name), functions in names.functions.items():
+        for function in functions:
+            for clause in function.promises if function.public else []:
+                if (crate, owner, name, clause) not in said:
+                    yield "docs/CLAIMS.md: no claim of `%s`%s" % (
+                        "::".join(part for part in (crate, owner, name) if part), clause and " (`%s`)" % clause)
+
+
+def main():
+    names = Names()
+    faults = list(stale(names)) + list(unsaid(names))
+    for fault in faults:
+        print("claims: " + fault)
+    return 1 if faults else 0
+
+
+if __name__ == "__main__":
+    sys.exit(main())
