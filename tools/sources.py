@@ -9,10 +9,10 @@ import re
 
 TOP = pathlib.Path(__file__).resolve().parent.parent
 
-# A function: the crate, the type or trait that it stands in or "", its name, whether another crate can call it,
-# the trait that it meets or "", its clauses by name ("" for the one without a name) with their texts, the names
-# of those that promise, and the words that its file brings in for them, each with its crate and file.
-Function = collections.namedtuple("Function", "crate owner name public meets clauses promises imports")
+# A function: the crate and module, the type or trait that it stands in or "", its name, whether another crate can
+# call it, the trait that it meets or "", its clauses by name ("" for the one without a name) with their texts, the
+# names of those that promise, and the words that its file brings in for them, each with its crate and file.
+Function = collections.namedtuple("Function", "crate module owner name public meets clauses promises imports")
 # A word of specs/: where it stands, and the comment above it.
 Word = collections.namedtuple("Word", "crate file name comment")
 
@@ -126,7 +126,7 @@ def functions_of(crate, file, modules, names):
             public = bool(found.group(2)) or (indent > 0 and public_block)
             of = owner if indent else ""
             seen = file.stem in modules or (of or found.group(3)) in names
-            yield Function(crate, of, found.group(3), public and seen, meets if indent else "",
+            yield Function(crate, file.stem, of, found.group(3), public and seen, meets if indent else "",
                            *header(lines, row, indent), imports)
 
 
