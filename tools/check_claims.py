@@ -14,7 +14,6 @@ import sources  # noqa: E402
 
 CLAIMS = sources.TOP / "docs" / "CLAIMS.md"
 CITED = re.compile(r"(private )?`([a-z]\w*)::((?:\w+::)*\w+)`(?: \(((?:`\w+`(?:, )?)+)\))?")
-
 LOOSE = re.compile(r"`([A-Z]\w*::[a-z]\w*|[a-z]+(?:_[a-z0-9]+)+)`")
 
 
@@ -90,11 +89,12 @@ def unsaid(names):
             for function in names.find(crate, path):
                 said.update((crate, function.owner, function.name, clause) for clause in clauses + [""])
     for (crate, owner, name), functions in names.functions.items():
-        for function in functions:
-            for clause in function.promises if function.public else []:
-                if (crate, owner, name, clause) not in said:
-                    yield "docs/CLAIMS.md: no claim of `%s`%s" % (
-                        "::".join(part for part in (crate, owner, name) if part), clause and " (`%s`)" % clause)
+        left = [clause for function in functions if function.public for clause in function.promises
+                if (crate, owner, name, clause) not in said]
+        if left:
+            path = "::".join(part for part in (crate, owner, name) if part)
+            listed = ", ".join("`%s`" % clause for clause in left if clause)
+            yield "docs/CLAIMS.md: no claim of `%s`%s" % (path, listed and " (%s)" % listed)
 
 
 def main():
