@@ -1,7 +1,8 @@
 #!/bin/sh
-# Compares crates.txt with the head of each crate's root file and with the map in docs/ARCHITECTURE.md:
-# the layer that a crate stands in, the crates that it stands on, in their order, and that the map names
-# it. Prints each disagreement, and fails where there is one. Run at the top of the repository.
+# Compares crates.txt with the head of each crate's root file, which says its layer and the crates that it
+# stands on, in their order, and with the map in docs/ARCHITECTURE.md, which has the same crates in the same
+# order under the same layers. Prints each disagreement, and fails where there is one. Run at the top of the
+# repository.
 set -u
 awk '
 function fail(text) { print "map: " text; bad = 1 }
@@ -20,7 +21,15 @@ function listed(names,   out, i, n, part) {          # "a b kit" -> "`a`, `b`", 
     layer[name] = number; deps[name] = half[2]; order[++count] = name
 }
 END {
-    while ((getline text < "docs/ARCHITECTURE.md") > 0) page = page text "\n"
+    # A row of the map: its layer, or nothing where that is the layer of the row above, and its crate.
+    while ((getline text < "docs/ARCHITECTURE.md") > 0) {
+        if (text !~ /^\|[^|]*\| `[a-z0-9_]+` \|[^|]*\|$/) { mapped += rows > 0 && text ~ /^#/; continue }
+        if (mapped) continue
+        split(text, cell, "|"); split(cell[2], word, " "); if (word[1] != "") under = word[1]
+        row[++rows] = cell[3]; gsub(/[ `]/, "", row[rows])
+        if (under != layer[row[rows]]) fail("docs/ARCHITECTURE.md: `" row[rows] "` under layer " under)
+    }
+    if (rows != count) fail("docs/ARCHITECTURE.md: the map has " rows " crates of " count)
     for (k = 1; k <= count; k++) {
         name = order[k]; file = "crates/" name "/src/lib.rt"
         if (system("test -f " file) != 0) file = "crates/" name "/src/main.rt"
@@ -29,7 +38,7 @@ END {
         if (!index(head, " Layer " layer[name] ". ")) fail(file ": no `Layer " layer[name] ".`")
         if (!index(head, "Stands on: " listed(deps[name]) ".")) fail(file ": no `Stands on: " listed(deps[name]) ".`")
         if (!index(head, " Promises: ")) fail(file ": no `Promises: ..`")
-        if (!index(page, "`" name "`")) fail("docs/ARCHITECTURE.md: no `" name "`")
+        if (row[k] != name) fail("docs/ARCHITECTURE.md: `" row[k] "` in the place of `" name "`")
     }
     exit bad
 }' crates.txt
