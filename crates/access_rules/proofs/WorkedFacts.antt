@@ -1,14 +1,72 @@
--- Worked values of the words: a slip in a definition does not check.
+-- Our constants by their numbers, and worked values of the words.
 use Rattle.std.proofs.Common.{◌≡◌, ◌*◌, ◌-◌, ◌^◌, true, false, List, [], ◌∷◌, Some, None, refl, lit≤}
 use Rattle.net_addr.specs.Addresses.{number_of}
 use Rattle.net_addr.specs.declared.addr.Ip.TheVariants.{V4, V6}
 use Rattle.net_addr.specs.declared.prefix.Prefix.{Prefix}
+use Rattle.access_rules.specs.declared.flags.TheConstants.{IGNORE, KOD, LIMITED, NOMODIFY, NOMRULIST, NOQUERY, NOSERVE, NOTRUST, VERSION}
 use Rattle.access_rules.specs.declared.rate.Rate.{Rate}
+use Rattle.access_rules.specs.declared.rate.TheConstants.{ARRIVAL_SCORE, PLAIN_AVERAGE, PLAIN_BURST, PLAIN_SPACING}
 use Rattle.access_rules.specs.declared.rules.Rule.{Rule}
+use Rattle.access_rules.specs.declared.rules.TheConstants.{MAX_RULES}
+use Rattle.access_rules.specs.declared.servers.TheConstants.{MAX_POLL, MAX_SERVERS, MIN_POLL}
 use Rattle.access_rules.specs.Flags.{has_flag, joined}
 use Rattle.access_rules.specs.Order.{prefix_before, same_prefix}
 use Rattle.access_rules.specs.Rates.{is_over, leak_of, score_of}
 use Rattle.access_rules.specs.Rules.{flags_at, flags_of, rules_with, rules_without}
+
+-- the numbers of the flags, of which a rule's flags are a sum
+IGNORE-is : IGNORE ≡ 0x0001
+IGNORE-is = refl
+
+NOSERVE-is : NOSERVE ≡ 0x0002
+NOSERVE-is = refl
+
+NOTRUST-is : NOTRUST ≡ 0x0004
+NOTRUST-is = refl
+
+VERSION-is : VERSION ≡ 0x0008
+VERSION-is = refl
+
+NOQUERY-is : NOQUERY ≡ 0x0010
+NOQUERY-is = refl
+
+NOMRULIST-is : NOMRULIST ≡ 0x0020
+NOMRULIST-is = refl
+
+LIMITED-is : LIMITED ≡ 0x0040
+LIMITED-is = refl
+
+KOD-is : KOD ≡ 0x0080
+KOD-is = refl
+
+NOMODIFY-is : NOMODIFY ≡ 0x0100
+NOMODIFY-is = refl
+
+MAX_RULES-is : MAX_RULES ≡ 1024
+MAX_RULES-is = refl
+
+ARRIVAL_SCORE-is : ARRIVAL_SCORE ≡ 60000
+ARRIVAL_SCORE-is = refl
+
+PLAIN_AVERAGE-is : PLAIN_AVERAGE ≡ 60
+PLAIN_AVERAGE-is = refl
+
+PLAIN_BURST-is : PLAIN_BURST ≡ 20
+PLAIN_BURST-is = refl
+
+-- two seconds
+PLAIN_SPACING-is : PLAIN_SPACING ≡ 2 * 2 ^ 32
+PLAIN_SPACING-is = refl
+
+-- RFC 5905, section 7.2: MINPOLL and MAXPOLL
+MIN_POLL-is : MIN_POLL ≡ 4
+MIN_POLL-is = refl
+
+MAX_POLL-is : MAX_POLL ≡ 17
+MAX_POLL-is = refl
+
+MAX_SERVERS-is : MAX_SERVERS ≡ 32
+MAX_SERVERS-is = refl
 
 -- `noserve` and `limited` are 0x0002 and 0x0040
 has_flag-set : has_flag 66 64 ≡ true

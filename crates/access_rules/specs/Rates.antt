@@ -1,7 +1,7 @@
 -- How often a client may ask. The score is our own rule, after the leaky bucket of NTPsec's rate limiting.
 use Rattle.std.specs.Prelude.{ℕ, ◌+◌, ◌-◌, ◌*◌, ◌/◌, ◌^◌, min, nat_lt, Bool}
 use Rattle.access_rules.specs.declared.rate.Rate.{Rate}
-use Rattle.access_rules.specs.declared.rate.TheConstants.{ARRIVAL_SCORE}
+use Rattle.access_rules.specs.declared.rate.TheConstants.{ARRIVAL_SCORE, PLAIN_AVERAGE, PLAIN_BURST, PLAIN_SPACING}
 
 -- what leaks out of a score in so many of 32.32 seconds: an arrival's worth at the average rate
 abbrev pub leak_of : Rate → ℕ → ℕ
@@ -17,4 +17,4 @@ is_over rate score = nat_lt (ARRIVAL_SCORE * rate.burst) score
 
 -- the rate where nothing else is said: 60 arrivals a minute, 20 at once, and 2 seconds between two kiss codes
 abbrev pub plain_rate : Rate
-plain_rate = record { average = 60; burst = 20; spacing = 2 * 2 ^ 32 }
+plain_rate = record { average = PLAIN_AVERAGE; burst = PLAIN_BURST; spacing = PLAIN_SPACING }

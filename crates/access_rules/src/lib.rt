@@ -13,6 +13,6 @@ pub mod servers;
 pub use flags::{
     IGNORE, KOD, LIMITED, NOMODIFY, NOMRULIST, NOQUERY, NOSERVE, NOTRUST, VERSION, has_flag,
 };
-pub use rate::{ARRIVAL_SCORE, Rate, over, score};
+pub use rate::{ARRIVAL_SCORE, PLAIN_AVERAGE, PLAIN_BURST, PLAIN_SPACING, Rate, over, score};
 pub use rules::{MAX_RULES, Rule, RuleFault, Rules, flags_for};
-pub use servers::ServerLine;
+pub use servers::{MAX_POLL, MAX_SERVERS, MIN_POLL, ServerLine};

@@ -4,6 +4,15 @@ ghost use Rattle.access_rules.specs.Rates.{is_over, plain_rate, score_of};
 /// What one arrival adds to a client's score.
 pub const ARRIVAL_SCORE: u32 = 60_000;
 
+/// The arrivals a minute that a client may keep up where nothing else is said.
+pub const PLAIN_AVERAGE: u32 = 60;
+
+/// The arrivals that it may have at once where nothing else is said.
+pub const PLAIN_BURST: u32 = 20;
+
+/// The least time between two RATE kiss codes where nothing else is said: 2 seconds, in 32.32.
+pub const PLAIN_SPACING: u64 = 2 << 32;
+
 /// How often a client may ask.
 #[derive(Clone, Copy, Debug, PartialEq, Eq)]
 pub struct Rate {
@@ -22,9 +31,9 @@ impl Rate {
         ensures { result ≡ plain_rate }
     {
         Rate {
-            average: 60,
-            burst: 20,
-            spacing: 2 << 32,
+            average: PLAIN_AVERAGE,
+            burst: PLAIN_BURST,
+            spacing: PLAIN_SPACING,
         }
     }
 }

@@ -1,4 +1,5 @@
-ghost use Rattle.std.specs.Prelude.{◌≡◌, ◌≤◌, ◌<◌, ◌↔◌, ◌≢◌, ℕ, List, length, Some, None, Err, IsTrue, IfOk, IfErr, OnOk, OnErr, slice_get, find, reverse, if◌then◌else◌};
+ghost use Rattle.std.specs.Prelude.{◌≡◌, ◌≤◌, ◌<◌, ◌↔◌, ℕ, List, length, Some, None, Err, IsTrue, IfOk, IfErr, OnOk, OnErr, slice_get, vec_len, vec_capacity, find, reverse, if◌then◌else◌};
+ghost use Rattle.std.specs.List.{insert};
 ghost use Rattle.std.specs.Option.{option_copied};
 ghost use Rattle.net_addr.specs.Addresses.{bits_of, number_of};
 ghost use Rattle.net_addr.specs.Prefixes.{has_ip};
@@ -7,11 +8,11 @@ ghost use Rattle.access_rules.specs.Flags.{joined};
 ghost use Rattle.access_rules.specs.Order.{same_prefix};
 ghost use Rattle.access_rules.specs.Rules.{AreWholes, IsPlain, IsRules, flags_at, flags_of, is_default, rules_with, rules_without};
 ghost use Rattle.access_rules.specs.Places.{family_end, is_placed, place_of};
-ghost use Rattle.access_rules.specs.declared.rules.RuleFault.TheVariants.{Full, NotThere, NoMemory};
+ghost use Rattle.access_rules.specs.declared.rules.RuleFault.TheVariants.{Full, NotThere};
 ghost use Rattle.access_rules.specs.declared.rules.TheConstants.{MAX_RULES};
 
-use crate::order::{bits, is_before, is_same};
-use net_addr::{Ip, Prefix, in_prefix};
+use crate::order::{is_before, is_same};
+use net_addr::{Ip, Prefix, bits, in_prefix};
 use std::alloc::{AllocError, Global};
 use std::marker::Model;
 
@@ -25,8 +26,8 @@ pub struct Rule {
     pub flags: u16,
 }
 
-/// Why rules stay as they were: there is no room for one more, no rule has the prefix, or for want of
-/// memory.
+/// Why rules stay as they were: there are 1,024, or no rule has the prefix. No change of rules wants
+/// memory: `NoMemory` is for those who make them.
 #[derive(Clone, Copy, Debug, PartialEq, Eq)]
 pub enum RuleFault {
     Full,
@@ -35,22 +36,24 @@ pub enum RuleFault {
 }
 
 /// 2 to 1,024 rules with distinct prefixes, in order: IPv4 before IPv6, then by address, then the
-/// shorter prefix first. The prefixes of length 0 of both families always have a rule.
+/// shorter prefix first. The prefixes of length 0 of both families always have a rule. Only `plain` and
+/// `copy` take memory, for 1,024 rules.
 #[derive(Drop)]
 pub struct Rules {
     rules: Vec<Rule>,
 }
 
 impl Model for Rules {
-    ghost use Rattle.std.specs.Prelude.{List};
+    ghost use Rattle.std.specs.Prelude.{◌≤◌, List, vec_capacity};
     ghost use Rattle.access_rules.specs.declared.rules.Rule.{Rule};
     ghost use Rattle.access_rules.specs.Rules.{IsRules};
+    ghost use Rattle.access_rules.specs.declared.rules.TheConstants.{MAX_RULES};
 
     ghost Value = { List Rule };
 
     ghost view = { λ r. r.rules.items };
 
-    ghost invariant = { λ r. IsRules r.rules.items };
+    ghost invariant = { λ r. IsRules r.rules.items × (MAX_RULES ≤ vec_capacity r.rules) };
 }
 
 impl Rules {
@@ -59,9 +62,9 @@ impl Rules {
         ensures plain { IfOk result IsPlain }
         ensures wholes { IfOk result AreWholes }
     {
-        let mut rules = Vec::new(alloc);
-        rules.push(default_of(Ip::V4([0; 4])))?;
-        rules.push(default_of(Ip::V6([0; 16])))?;
+        let mut rules = Vec::with_capacity(alloc, MAX_RULES)?;
+        rules.push_reserved(default_of(Ip::V4([0; 4])));
+        rules.push_reserved(default_of(Ip::V6([0; 16])));
         Ok(Rules { rules })
     }
 
@@ -69,8 +72,16 @@ impl Rules {
     pub fn copy(&self) -> Result<Rules, AllocError>
         ensures { IfOk result (λ rules. rules ≡ self.now) }
     {
-        let rules = Vec::from_slice(*self.rules.allocator(), self.rules.as_slice())?;
+        let mut rules = Vec::with_capacity(*self.rules.allocator(), MAX_RULES)?;
+        fill(&mut rules, self);
         Ok(Rules { rules })
+    }
+
+    /// Makes these rules the same as others. Takes no memory.
+    pub fn assign(&mut self, from: &Rules)
+        ensures { self.new ≡ from.now }
+    {
+        fill(&mut self.rules, from);
     }
 
     /// How many rules there are.
@@ -92,7 +103,7 @@ impl Rules {
     }
 
     /// Joins flags to those of the rule with this prefix, or puts a new rule in its place, found by
-    /// halving.
+    /// halving. Takes no memory.
     pub fn add(&mut self, prefix: &Prefix, flags: u16) -> Result<(), RuleFault>
         ensures added { OnOk result (self.new ≡ rules_with self.old prefix.now flags) }
         ensures at_each { OnOk result ((other : Prefix) → flags_at self.new other
@@ -101,11 +112,10 @@ impl Rules {
             else flags_at self.old other)) }
         ensures kept { OnErr result (self.new ≡ self.old) }
 
-        // The refusals: want of memory comes freely, and only for a new rule.
+        // The refusal, and that there is no other.
         ensures full { (result ≡ Err Full)
             ↔ ((flags_at self.old prefix.now ≡ None) × (length self.old ≡ MAX_RULES)) }
-        ensures no_memory { (result ≡ Err NoMemory) → flags_at self.old prefix.now ≡ None }
-        ensures there { result ≢ Err NotThere }
+        ensures only { IfErr result (λ fault. fault ≡ Full) }
     {
         let place = self.place(prefix);
         if self.has_at(place, prefix) {
@@ -119,9 +129,7 @@ impl Rules {
             prefix: *prefix,
             flags,
         };
-        if self.rules.insert(place, rule).is_err() {
-            return Err(RuleFault::NoMemory);
-        }
+        put_in(&mut self.rules, place, rule);
         Ok(())
     }
 
@@ -189,6 +197,29 @@ impl Rules {
         }
         is_same(&self.rules[place].prefix, prefix)
     }
+}
+
+/// Puts rules into a vector with room for them, in the place of what it had.
+fn fill(into: &mut Vec<Rule>, from: &Rules)
+    requires { MAX_RULES ≤ vec_capacity into.old }
+    ensures items { into.new.items ≡ from.now }
+    ensures table { IsRules into.new.items }
+    ensures capacity { MAX_RULES ≤ vec_capacity into.new }
+{
+    into.clear();
+    let filled = into.extend_from_slice(from.rules.as_slice()).is_ok();
+    prove!(filled);
+}
+
+/// Puts a rule at a place, within the room that there is.
+fn put_in(rules: &mut Vec<Rule>, place: usize, rule: Rule)
+    requires place { place ≤ vec_len rules.old }
+    requires room { vec_len rules.old < vec_capacity rules.old }
+    ensures items { rules.new.items ≡ insert rules.old.items place rule }
+    ensures capacity { vec_capacity rules.old ≤ vec_capacity rules.new }
+{
+    let added = rules.insert(place, rule).is_ok();
+    prove!(added);
 }
 
 /// Whether the prefix has every address of its family.
@@ -266,6 +297,9 @@ mod tests {
         let mut rules = Rules::plain(rt.alloc())?;
         rules.add(&all_v4(), NOSERVE)?;
         rules.add(&net_10(), 0)?;
+        let mut assigned = Rules::plain(rt.alloc())?;
+        assigned.add(&net_10(), KOD)?;
+        assigned.assign(&rules);
         let mut mapped = [0; 16];
         mapped[10..].copy_from_slice(&[0xff, 0xff, 11, 1, 2, 3]);
         let cases = [
@@ -278,6 +312,7 @@ mod tests {
         for (ip, flags) in cases {
             assert_eq!(rt; flags_for(&rules, &ip), flags, "{ip:?}");
             assert_eq!(rt; flags_for(&rules.copy()?, &ip), flags, "{ip:?} of a copy");
+            assert_eq!(rt; flags_for(&assigned, &ip), flags, "{ip:?} assigned");
         }
         Ok(())
     }

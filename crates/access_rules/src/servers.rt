@@ -1,6 +1,16 @@
 ghost use Rattle.std.specs.Prelude.{◌≤◌};
+ghost use Rattle.access_rules.specs.declared.servers.TheConstants.{MAX_POLL, MIN_POLL};
 
 use net_addr::Addr;
+
+/// The most upstream servers of a configuration.
+pub const MAX_SERVERS: usize = 32;
+
+/// The least poll exponent (RFC 5905, section 7.2): requests 16 seconds apart.
+pub const MIN_POLL: u8 = 4;
+
+/// The greatest poll exponent (RFC 5905, section 7.2): requests some 36 hours apart.
+pub const MAX_POLL: u8 = 17;
 
 /// An upstream server as a configuration line names it.
 #[derive(Clone, Copy, Debug, PartialEq, Eq)]
@@ -11,8 +21,8 @@ pub struct ServerLine {
     /// The poll exponent: its requests are 2^poll seconds apart, 4 to 17.
     pub poll: u8,
     pub ghost key_id: { key ≤ 65535 },
-    pub ghost at_least: { 4 ≤ poll },
-    pub ghost at_most: { poll ≤ 17 },
+    pub ghost at_least: { MIN_POLL ≤ poll },
+    pub ghost at_most: { poll ≤ MAX_POLL },
 }
 
 #[cfg(test)]

@@ -1,15 +1,15 @@
-use Rattle.std.proofs.Common.{◌≡◌, ◌≢◌, true, length, sym, subst, ◌∙◌, refl}
-use Rattle.std.specs.List.{insert}
-use Rattle.std.specs.Result.{is_ok}
+use Rattle.std.proofs.Common.{◌≢◌, length, sym, subst, ◌∙◌, refl, arith}
 use Rattle.access_rules.proofs.EditLemmas.{IsAdded, IsAdded-inserted, IsAdded-joined}
 use Rattle.access_rules.proofs.RuleLemmas.{Ascend-from_pairs, both_answers, flags_at-placed, flags_at-unplaced}
 use Rattle.access_rules.proofs.rules.Rules.add.Goals as goal
-use Rattle.access_rules.proofs.rules.Rules.add.Goals.{Else-is_err}
+use Rattle.access_rules.proofs.rules.Rules.add.Goals.{After-put_in}
 
 pub invariant_of-self : goal.invariant_of-self
-invariant_of-self c =
-    (IsAdded-joined _ _ _ _ _ _ c.place-place.ensures.table c.self.view_is c.place-place.ensures.place
-    (sym c.has_at.ensures.placed ∙ c.if-has_at.true) c.index_mut.ensures.value).table
+invariant_of-self c = (
+  (IsAdded-joined _ _ c.args.prefix.now c.args.flags _ _ c.place-place.ensures.table c.self.view_is c.place-place.ensures.place
+      (sym c.has_at.ensures.placed ∙ c.if-has_at.true) c.index_mut.ensures.value).table,
+  c.self.invariant.1,
+)
 
 pub returns-then-has_at-clause-added : goal.returns-then-has_at-clause-added
 returns-then-has_at-clause-added c =
@@ -35,23 +35,15 @@ returns-then-is_full-clause-full c = (
   λ _. refl,
 )
 
-pub returns-then-is_err-clause-no_memory : goal.returns-then-is_err-clause-no_memory
-returns-then-is_err-clause-no_memory c = λ _.
-    flags_at-unplaced c.args.self.now c.args.prefix.now (Ascend-from_pairs c.args.self.now c.place-place.ensures.table.ascending)
-    (sym c.has_at.ensures.placed ∙ c.if-has_at.false)
-
-inserts : (c : Else-is_err) → IsAdded c.args.self.now c.args.prefix.now c.args.flags c.insert.new.self.items
+inserts : (c : After-put_in) → IsAdded c.args.self.now c.args.prefix.now c.args.flags c.put_in.new.rules.items
 inserts c =
-    let good : is_ok c.insert.result ≡ true = c.if-is_err.ensures.negation in
-    let items : c.insert.new.self.items ≡ insert c.self.inside.rules.items c.place-place.result (record { prefix = c.args.prefix.now; flags = c.args.flags }) =
-    rw good at c.insert.ensures.items in
     let not_full : length c.args.self.now ≢ 1024 = λ full. both_answers c.is_full.result (c.is_full.ensures.1 full) c.if-is_full.false in
-    subst (IsAdded c.args.self.now c.args.prefix.now c.args.flags) (sym items)
+    subst (IsAdded c.args.self.now c.args.prefix.now c.args.flags) (sym c.put_in.ensures.items)
     (IsAdded-inserted c.args.self.now c.self.inside.rules.items c.args.prefix.now c.args.flags c.place-place.result c.place-place.ensures.table
     c.self.view_is c.place-place.ensures.place (sym c.has_at.ensures.placed ∙ c.if-has_at.false) not_full)
 
 pub invariant_of-self-2 : goal.invariant_of-self-2
-invariant_of-self-2 c = (inserts c).table
+invariant_of-self-2 c = ((inserts c).table, omega (arith, c.self.invariant.1, c.put_in.ensures.capacity))
 
 pub returns-clause-added : goal.returns-clause-added
 returns-clause-added c = (inserts c).added

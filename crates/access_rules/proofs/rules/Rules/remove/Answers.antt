@@ -1,4 +1,4 @@
-use Rattle.std.proofs.Common.{sym, subst, ◌∙◌, refl}
+use Rattle.std.proofs.Common.{sym, subst, ◌∙◌, refl, arith}
 use Rattle.access_rules.proofs.EditLemmas.{IsRemoved, IsRemoved-cleared, IsRemoved-taken}
 use Rattle.access_rules.proofs.RuleLemmas.{Ascend-from_pairs, flags_at-placed, flags_at-unplaced}
 use Rattle.access_rules.proofs.rules.Rules.remove.Goals as goal
@@ -11,9 +11,11 @@ takes c =
     c.self.view_is c.place-place.ensures.place (sym c.has_at.ensures.placed ∙ c.if-not-has_at.false) (sym c.is_default.ensures ∙ c.if-is_default.false))
 
 pub invariant_of-self : goal.invariant_of-self
-invariant_of-self c =
-    (IsRemoved-cleared _ _ _ _ _ c.place-place.ensures.table c.self.view_is c.place-place.ensures.place
-    (sym c.has_at.ensures.placed ∙ c.if-not-has_at.false) (sym c.is_default.ensures ∙ c.if-is_default.true) c.index_mut.ensures.value).table
+invariant_of-self c = (
+  (IsRemoved-cleared _ _ c.args.prefix.now _ _ c.place-place.ensures.table c.self.view_is c.place-place.ensures.place
+      (sym c.has_at.ensures.placed ∙ c.if-not-has_at.false) (sym c.is_default.ensures ∙ c.if-is_default.true) c.index_mut.ensures.value).table,
+  c.self.invariant.1,
+)
 
 pub returns-then-is_default-clause-removed : goal.returns-then-is_default-clause-removed
 returns-then-is_default-clause-removed c =
@@ -30,7 +32,7 @@ returns-then-is_default-clause-not_there c =
     (λ wrong. absurd (cc), λ none. absurd (flags_at-placed c.args.self.now c.args.prefix.now (sym c.has_at.ensures.placed ∙ c.if-not-has_at.false) none))
 
 pub invariant_of-self-2 : goal.invariant_of-self-2
-invariant_of-self-2 c = (takes c).table
+invariant_of-self-2 c = ((takes c).table, omega (arith, c.self.invariant.1, c.remove.ensures.capacity))
 
 pub returns-clause-removed : goal.returns-clause-removed
 returns-clause-removed c = (takes c).removed
