@@ -1,29 +1,17 @@
 -- The control message at the places of the octets is the one that they begin with.
-use Rattle.std.proofs.Common.{◌≡◌, ℕ, zero, suc, ◌+◌, ◌*◌, ◌/◌, ◌%◌, ◌^◌, ◌<◌, ◌≤◌, ◌==◌, Bool, true, false, List, [], ◌∷◌, ◌++◌, length, take, drop, slice_index, refl, sym, ap, ◌∙◌, arith, take-add, length-take, length-drop, lit<, length-append, take_at, None}
-use Rattle.std.proofs.lemmas.List.{get_or-drop, length-take-le, take-append-drop}
+use Rattle.std.proofs.Common.{◌≡◌, ℕ, zero, suc, ◌+◌, ◌*◌, ◌/◌, ◌%◌, ◌^◌, ◌<◌, ◌≤◌, ◌==◌, Bool, true, false, List, [], ◌∷◌, ◌++◌, length, take, drop, slice_index, refl, sym, ap, ◌∙◌, arith, take-add, length-take, length-drop, lit<, length-append, take_at, append_assoc, None}
+use Rattle.std.proofs.lemmas.List.{length-take-le, take-append-drop}
 use Rattle.std.proofs.lemmas.Nat.{be_bytes_2}
 use Rattle.std.proofs.lemmas.Bool.Decides.{nat_tests}
 use Rattle.std.specs.Int.{from_bool}
 use Rattle.byteorder.specs.Endian.{big_bytes, big_number}
 use Rattle.byteorder.specs.Numbers.{big_from-take, big_number-reads_back, big_from-lt}
+use Rattle.ntp_packet.proofs.FirstOctetLemmas.{leap_of-first_octet, version_of-first_octet}
+use Rattle.ntp_packet.proofs.OctetLemmas.{AreOctets, AreOctets-drop, AreOctets-take}
+use Rattle.ntp_packet.specs.declared.leap_version_mode.TheConstants.{MODE_CONTROL}
 use Rattle.mode6_frame.specs.declared.message.TheConstants.{HEAD_LEN, MAX_BODY}
-use Rattle.mode6_frame.specs.Frames.{FrameParts, FitsFrame, IsFrame, IsFrameVersion, frame_fault_of, head_of, first_octet_of, second_octet_of, leap_of, version_of, mode_of, flag_of, opcode_of, word_at, count_of}
+use Rattle.mode6_frame.specs.Frames.{FrameParts, FitsFrame, IsFrame, IsFrameVersion, frame_fault_of, head_of, spelled_frame, padding_of, first_octet_of, second_octet_of, leap_of, version_of, mode_of, flag_of, opcode_of, word_at, count_of}
 use Rattle.mode6_frame.specs.Places.{frame_at}
-
--- each item of the list is an octet
-abbrev pub AreOctets : List ℕ → Type 0
-AreOctets xs = (i : ℕ) → slice_index xs i < 2 ^ 8
-
--- the items past a place are octets too
-AreOctets-drop : (n : ℕ) (xs : List ℕ) → AreOctets xs → AreOctets (drop n xs)
-AreOctets-drop n xs small i = rw (get_or-drop n xs i 0) (small (n + i))
-
--- the items before a place are octets too
-AreOctets-take : (n : ℕ) (xs : List ℕ) → AreOctets xs → AreOctets (take n xs)
-AreOctets-take zero xs small i = lit< tt
-AreOctets-take (suc n) [] small i = lit< tt
-AreOctets-take (suc n) (x ∷ xs) small zero = small 0
-AreOctets-take (suc n) (x ∷ xs) small (suc i) = AreOctets-take n xs (λ k. small (suc k)) i
 
 -- the first two items, one by one
 take-two : (xs : List ℕ) → 2 ≤ length xs → take 2 xs ≡ slice_index xs 0 ∷ slice_index xs 1 ∷ []
@@ -142,8 +130,8 @@ unfolding head_of frame_at
 frame_at-spelled_by f rest fits =
     let octets : List ℕ = (head_of f ++ f.body) ++ rest in
     let parts = second-parts f.response f.error f.more f.opcode fits.opcode in
-    let leap : leap_of octets ≡ f.leap = omega (arith, fits.leap, fits.version) in
-    let version : version_of octets ≡ f.version = omega (arith, fits.leap, fits.version) in
+    let leap : leap_of octets ≡ f.leap = leap_of-first_octet f.leap f.version MODE_CONTROL (drop 1 octets) fits.version (lit< tt) in
+    let version : version_of octets ≡ f.version = version_of-first_octet f.leap f.version MODE_CONTROL (drop 1 octets) fits.version (lit< tt) in
     let response : flag_of 7 octets ≡ f.response = ap (λ n. n == 1) parts.0 ∙ bit-from_bool f.response in
     let error : flag_of 6 octets ≡ f.error = ap (λ n. n == 1) parts.1 ∙ bit-from_bool f.error in
     let more : flag_of 5 octets ≡ f.more = ap (λ n. n == 1) parts.2 ∙ bit-from_bool f.more in
@@ -163,6 +151,15 @@ frame_at-spelled_by f rest fits =
       offset = big_number-reads_back 2 f.offset (drop 10 octets) fits.offset i;
       body = body i;
     }
+
+-- and padding stands behind them
+pub frame_at-padded : (f : FrameParts) (rest : List ℕ) → FitsFrame f → frame_at (spelled_frame f ++ rest) ≡ f
+unfolding head_of
+frame_at-padded f rest fits =
+    let padding = padding_of (length f.body) in
+    ap (λ octets. frame_at (octets ++ rest)) (sym (append_assoc (head_of f) f.body padding))
+    ∙ ap frame_at (append_assoc (head_of f ++ f.body) padding rest)
+    ∙ frame_at-spelled_by f (padding ++ rest) fits
 
 -- the mode and the count of what spells a control message
 mode-spelled_by : (f : FrameParts) (rest : List ℕ) → FitsFrame f

@@ -3,3 +3,4 @@ pub mod ItemLemmas
 pub mod SlotLemmas
 pub mod ItemTextLemmas
 mod StandardFacts
+mod CodeFacts

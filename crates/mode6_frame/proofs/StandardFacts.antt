@@ -1,8 +1,10 @@
 -- Worked octets: a request for the variable `stratum`, its answer, errors and names (RFC 9327, sections 2, 3.4 and 4).
 use Rattle.std.proofs.Common.{◌≡◌, ℕ, true, false, List, [], ◌∷◌, ◌++◌, take, drop, Some, None, refl, lit<, lit≤, ◌≤◌}
+use Rattle.mode6_frame.specs.declared.message.TheConstants.{HEAD_LEN, MAX_BODY}
 use Rattle.mode6_frame.specs.declared.message.FrameFault.TheVariants.{Short, BadVersion, BadMode, BadCount}
 use Rattle.mode6_frame.specs.declared.message.Head.{Head}
 use Rattle.mode6_frame.specs.Frames.{FrameParts, spelled_frame, head_of, error_parts, frame_fault_of}
+use Rattle.mode6_frame.specs.Status.{system_status_word, peer_status_word, error_status_word}
 use Rattle.mode6_frame.specs.Items.{IsItemText, Blank, Named}
 
 -- operation 2 of version 2, for `stratum`
@@ -109,3 +111,24 @@ names = record {
   spelled = refl;
   named = refl;
 }
+
+HEAD_LEN-is : HEAD_LEN ≡ 12
+HEAD_LEN-is = refl
+
+MAX_BODY-is : MAX_BODY ≡ 468
+MAX_BODY-is = refl
+
+-- not synchronized, no source, one event, its code 1
+opening-status : system_status_word (record { leap = 3; source = 0; events = 1; code = 1 }) ≡ 0xc011
+opening-status = refl
+
+-- configured, with a key and a good MAC, reachable; the system peer; 15 events, the last of code 3
+chosen-status : peer_status_word (record { configured = true; keyed = true; authentic = true; reachable = true; broadcast = false; selection = 6; events = 15; code = 3 }) ≡ 0xf6f3
+chosen-status = refl
+
+-- a broadcast server, which no one configured
+broadcast-status : peer_status_word (record { configured = false; keyed = false; authentic = false; reachable = false; broadcast = true; selection = 0; events = 0; code = 0 }) ≡ 0x0800
+broadcast-status = refl
+
+unknown_name-status : error_status_word 5 ≡ 0x0500
+unknown_name-status = refl

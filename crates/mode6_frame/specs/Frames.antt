@@ -2,11 +2,15 @@
 use Rattle.std.specs.Prelude.{◌≡◌, ℕ, ◌+◌, ◌-◌, ◌*◌, ◌/◌, ◌%◌, ◌^◌, ◌<◌, ◌≤◌, Bool, true, false, not, ◌==◌, nat_lt, if◌then◌else◌, List, [], ◌∷◌, ◌++◌, length, take, drop, replicate, slice_index, Option, Some, None}
 use Rattle.std.specs.Int.{from_bool, is_in_range}
 use Rattle.byteorder.specs.Endian.{big_bytes, big_number}
+use Rattle.ntp_packet.specs.declared.leap_version_mode.TheConstants.{MIN_VERSION, CURRENT_VERSION, MODE_CONTROL}
+use Rattle.ntp_packet.specs.FirstOctet.{first_octet, IsPacketVersion}
+pub use Rattle.ntp_packet.specs.FirstOctet.{leap_of, version_of, mode_of}
 use Rattle.mode6_frame.specs.declared.message.TheConstants.{HEAD_LEN, MAX_BODY}
 use Rattle.mode6_frame.specs.declared.message.Frame.{Frame}
 use Rattle.mode6_frame.specs.declared.message.Head.{Head}
 use Rattle.mode6_frame.specs.declared.message.FrameFault.{FrameFault}
 use Rattle.mode6_frame.specs.declared.message.FrameFault.TheVariants.{Short, BadVersion, BadMode, BadCount}
+use Rattle.mode6_frame.specs.Status.{error_status_word}
 
 -- a control message: a `Frame` by its values, without what follows the body
 pub record FrameParts : Type 0 where
@@ -38,9 +42,9 @@ parts_of f = record {
   body = f.body.now;
 }
 
--- the first octet: the leap indicator in 2 bits, the version in 3, and mode 6 in 3
+-- the first octet, of mode 6
 abbrev pub first_octet_of : FrameParts → ℕ
-first_octet_of f = f.leap * 2 ^ 6 + f.version * 2 ^ 3 + 6
+first_octet_of f = first_octet f.leap f.version MODE_CONTROL
 
 -- the second octet: the response, error and more bits, and the operation code in 5 bits
 abbrev pub second_octet_of : FrameParts → ℕ
@@ -76,27 +80,15 @@ pub record FitsFrame (f : FrameParts) : Type 0 where
   pub offset : f.offset < 2 ^ 16
   pub body : length f.body ≤ MAX_BODY
 
--- our own rule: versions 1 to 4 are read
+-- our own rule: the versions of packets are those of control messages
 abbrev pub IsFrameVersion : ℕ → Type 0
-IsFrameVersion version = (1 ≤ version) × (version ≤ 4)
+IsFrameVersion = IsPacketVersion
 
 -- the octets begin with the head and the body of this control message
 pub record IsFrame (octets : List ℕ) (f : FrameParts) : Type 0 where
   pub fits : FitsFrame f
   pub version : IsFrameVersion f.version
   pub spelled : take (HEAD_LEN + length f.body) octets ≡ head_of f ++ f.body
-
--- the leap indicator, in bits 6 and 7 of the first octet
-abbrev pub leap_of : List ℕ → ℕ
-leap_of octets = slice_index octets 0 / 2 ^ 6
-
--- the version, in bits 3 to 5 of the first octet
-abbrev pub version_of : List ℕ → ℕ
-version_of octets = slice_index octets 0 / 2 ^ 3 % 2 ^ 3
-
--- the mode, in bits 0 to 2 of the first octet
-abbrev pub mode_of : List ℕ → ℕ
-mode_of octets = slice_index octets 0 % 2 ^ 3
 
 -- a bit of the second octet
 abbrev pub flag_of : ℕ → List ℕ → Bool
@@ -119,14 +111,13 @@ count_of octets = word_at 10 octets
 abbrev pub frame_fault_of : List ℕ → Option FrameFault
 frame_fault_of octets =
     if nat_lt (length octets) HEAD_LEN then Some Short
-    else (if not (is_in_range 1 4 (version_of octets)) then Some BadVersion
-    else (if not (mode_of octets == 6) then Some BadMode
+    else (if not (is_in_range MIN_VERSION CURRENT_VERSION (version_of octets)) then Some BadVersion
+    else (if not (mode_of octets == MODE_CONTROL) then Some BadMode
     else (if nat_lt MAX_BODY (count_of octets) then Some BadCount
     else (if nat_lt (length octets) (HEAD_LEN + count_of octets) then Some BadCount
     else None))))
 
--- the error response to a request: the code in the high octet of the status, and no body
--- (RFC 9327, section 3.4)
+-- the error response to a request: the code in the status, and no body (RFC 9327, section 3.4)
 abbrev pub error_parts : Head → ℕ → FrameParts
 error_parts head code = record {
   leap = 0;
@@ -136,7 +127,7 @@ error_parts head code = record {
   more = false;
   opcode = head.opcode;
   sequence = head.sequence;
-  status = code * 2 ^ 8;
+  status = error_status_word code;
   assoc = head.assoc;
   offset = 0;
   body = [];

@@ -1,15 +1,17 @@
 ghost use Rattle.std.specs.Prelude.{◌≡◌, ◌+◌, ◌<◌, ◌≤◌, length, drop, None, Some, IfOk, IsOkAnd, MatchResult};
-ghost use Rattle.mode6_frame.specs.Frames.{FrameParts, IsFrame, parts_of, frame_fault_of, leap_of, version_of, mode_of, flag_of, opcode_of, word_at, count_of};
+ghost use Rattle.mode6_frame.specs.Frames.{FrameParts, IsFrame, parts_of, frame_fault_of, flag_of, opcode_of, word_at, count_of};
 ghost use Rattle.mode6_frame.specs.Places.{frame_at};
 
 use crate::message::{Frame, FrameFault, HEAD_LEN, MAX_BODY};
 use byteorder::{BigEndian, ByteOrder};
+use ntp_packet::{CURRENT_VERSION, MIN_VERSION, MODE_CONTROL, leap_in, mode_in, version_in};
 
 /// The control message that the octets begin with (RFC 9327, section 2).
 ///
 /// The version has to be 1 to 4. What follows the body is `rest`, and is not judged.
 pub fn read(bytes: &[u8]) -> Result<Frame<'_>, FrameFault>
     ensures found { IfOk result (λ f. IsFrame bytes.now (parts_of f)) }
+    ensures parts { IfOk result (λ f. parts_of f ≡ frame_at bytes.now) }
     ensures rest { IfOk result (λ f. f.rest.now ≡ drop (HEAD_LEN + length f.body.now) bytes.now) }
     ensures only { (f : FrameParts) → IsFrame bytes.now f
         → IsOkAnd result (λ read. parts_of read ≡ f) }
@@ -29,9 +31,9 @@ fn first_fault(bytes: &[u8]) -> Option<FrameFault>
 {
     if bytes.len() < HEAD_LEN {
         Some(FrameFault::Short)
-    } else if !(1..=4).contains(&version_in(bytes)) {
+    } else if !(MIN_VERSION..=CURRENT_VERSION).contains(&version_in(bytes)) {
         Some(FrameFault::BadVersion)
-    } else if mode_in(bytes) != 6 {
+    } else if mode_in(bytes) != MODE_CONTROL {
         Some(FrameFault::BadMode)
     } else if count_in(bytes) > MAX_BODY {
         Some(FrameFault::BadCount)
@@ -62,27 +64,6 @@ fn frame_in(bytes: &[u8]) -> Frame<'_>
         body,
         rest,
     }
-}
-
-fn leap_in(bytes: &[u8]) -> u8
-    requires { 1 ≤ length bytes.now }
-    ensures { result ≡ leap_of bytes.now }
-{
-    bytes[0] >> 6
-}
-
-fn version_in(bytes: &[u8]) -> u8
-    requires { 1 ≤ length bytes.now }
-    ensures { result ≡ version_of bytes.now }
-{
-    (bytes[0] >> 3) & 0b111
-}
-
-fn mode_in(bytes: &[u8]) -> u8
-    requires { 1 ≤ length bytes.now }
-    ensures { result ≡ mode_of bytes.now }
-{
-    bytes[0] & 0b111
 }
 
 fn flag_in(bytes: &[u8], bit: u32) -> bool

@@ -1,9 +1,12 @@
 ghost use Rattle.std.specs.Prelude.{◌≡◌, ◌+◌, ◌<◌, ◌≤◌, ◌^◌, length, List, ℕ, ◌++◌};
 ghost use Rattle.byteorder.specs.Endian.{big_bytes};
-ghost use Rattle.mode6_frame.specs.Frames.{IsFrame, IsFrameVersion, FitsFrame, parts_of, error_parts, spelled_frame, head_of, padding_of, first_octet_of, second_octet_of};
+ghost use Rattle.mode6_frame.specs.Frames.{IsFrame, IsFrameVersion, FitsFrame, parts_of, error_parts, spelled_frame, head_of, padding_of, second_octet_of};
+ghost use Rattle.mode6_frame.specs.Places.{frame_at};
 
 use crate::message::{Frame, HEAD_LEN, Head, MAX_BODY};
+use crate::status::error_status_word;
 use edge_traits::Octets;
+use ntp_packet::{MODE_CONTROL, first_octet};
 
 /// The octets of the control message, padded with zeros to a multiple of four (RFC 9327, section 2).
 ///
@@ -14,6 +17,7 @@ pub fn write(frame: &Frame<'_>) -> Octets
     requires opcode { frame.now.opcode ≤ 31 }
     requires body { length frame.now.body.now ≤ MAX_BODY }
     ensures spelled { result ≡ spelled_frame (parts_of frame.now) }
+    ensures places { (rest : List ℕ) → frame_at (result ++ rest) ≡ parts_of frame.now }
     ensures read_back { IsFrameVersion frame.now.version
         → (rest : List ℕ) → IsFrame (result ++ rest) (parts_of frame.now) }
     ensures short { length result ≤ HEAD_LEN + MAX_BODY }
@@ -27,6 +31,7 @@ pub fn write(frame: &Frame<'_>) -> Octets
 /// The error response to a request, with this code (RFC 9327, section 3.4).
 pub fn error_gram(head: &Head, code: u8) -> Octets
     ensures spelled { result ≡ spelled_frame (error_parts head.now code) }
+    ensures places { (rest : List ℕ) → frame_at (result ++ rest) ≡ error_parts head.now code }
     ensures read_back { IsFrameVersion head.now.version
         → (rest : List ℕ) → IsFrame (result ++ rest) (error_parts head.now code) }
     ensures short { length result ≤ HEAD_LEN + MAX_BODY }
@@ -39,7 +44,7 @@ pub fn error_gram(head: &Head, code: u8) -> Octets
         more: false,
         opcode: head.opcode,
         sequence: head.sequence,
-        status: u16::from(code) << 8,
+        status: error_status_word(code),
         assoc: head.assoc,
         offset: 0,
         body: &[],
@@ -57,7 +62,7 @@ fn head_octets(frame: &Frame<'_>) -> Octets
     ensures fits { FitsFrame (parts_of frame.now) }
 {
     let mut octets = Octets::new();
-    octets.push(first_octet(frame));
+    octets.push(first_octet(frame.leap, frame.version, MODE_CONTROL));
     octets.push(second_octet(frame));
     put_word(&mut octets, frame.sequence);
     put_word(&mut octets, frame.status);
@@ -65,14 +70,6 @@ fn head_octets(frame: &Frame<'_>) -> Octets
     put_word(&mut octets, frame.offset);
     put_word(&mut octets, frame.body.len() as u16);
     octets
-}
-
-fn first_octet(frame: &Frame<'_>) -> u8
-    requires leap { frame.now.leap ≤ 3 }
-    requires version { frame.now.version ≤ 7 }
-    ensures { result ≡ first_octet_of (parts_of frame.now) }
-{
-    (frame.leap << 6) | (frame.version << 3) | 6
 }
 
 fn second_octet(frame: &Frame<'_>) -> u8

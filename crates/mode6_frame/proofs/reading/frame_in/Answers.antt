@@ -11,8 +11,8 @@ returns-clause-parts c =
     let tail = take_all (length bytes - HEAD_LEN) (drop HEAD_LEN bytes) (omega (arith, length-drop HEAD_LEN bytes)) in
     let body = c.split_at.ensures.front ∙ (λ i. take (c.count_in.ensures i) (tail i)) in
     λ i. record {
-      leap = c.leap_in.ensures i;
-      version = c.version_in.ensures i;
+      leap = c.leap_in.ensures.value i;
+      version = c.version_in.ensures.value i;
       response = c.flag_in.ensures i;
       error = c.flag_in-2.ensures i;
       more = c.flag_in-3.ensures i;
