@@ -4,6 +4,7 @@ use Rattle.std.specs.List.{range_with_len}
 use Rattle.fixed_time.specs.Apart.{squared_apart_of}
 use Rattle.fixed_time.specs.Root.{root}
 use Rattle.clock_filter.specs.declared.samples.Sample.{Sample}
+use Rattle.clock_filter.specs.declared.samples.TheConstants.{STAGES}
 use Rattle.fixed_time.specs.declared.time.TheConstants.{MAX_DISPERSION}
 use Rattle.clock_filter.specs.declared.estimates.Estimate.{Estimate}
 use Rattle.clock_filter.specs.declared.estimates.TheConstants.{MIN_JITTER}
@@ -14,7 +15,7 @@ disp_at sorted i = slice_index_or (map (λ s. s.disp) sorted) i MAX_DISPERSION
 
 -- the sum over eight places, the first by 2, the next by 4 and so on, each quotient rounded down
 abbrev pub dispersion_of : List Sample → ℕ
-dispersion_of sorted = sum_by (λ i. disp_at sorted i / 2 ^ (i + 1)) (range_with_len 0 8)
+dispersion_of sorted = sum_by (λ i. disp_at sorted i / 2 ^ (i + 1)) (range_with_len 0 STAGES)
 
 -- the squares of how far the offsets are from one, summed up
 abbrev pub spread : ℤ → List Sample → ℕ

@@ -1,12 +1,9 @@
-ghost use Rattle.std.specs.Prelude.{◌≡◌, ◌-◌};
-ghost use Rattle.fixed_time.specs.Order.{arranged};
-ghost use Rattle.fixed_time.specs.Time.{drift_of};
-ghost use Rattle.clock_filter.specs.Estimates.{estimate_of};
-ghost use Rattle.clock_filter.specs.Filtering.{empty_state, last_given};
-ghost use Rattle.clock_filter.specs.Samples.{delay_of, next_samples, stages_of};
+ghost use Rattle.std.specs.Prelude.{◌≡◌};
+ghost use Rattle.clock_filter.specs.Filtering.{empty_state, estimate_after, filter_after};
+ghost use Rattle.clock_filter.specs.Samples.{stages_of};
 
 use crate::estimates::{Estimate, make_estimate};
-use crate::samples::{Sample, SampleList, make_next, make_stages, sort_by_delay};
+use crate::samples::{STAGES, Sample, SampleList, make_next, make_stages, sort_by_delay};
 use arrayvec::ArrayVec;
 use fixed_time::{PHI, drift};
 use std::marker::Model;
@@ -48,12 +45,8 @@ impl Filter {
     /// last put, and the ninth sample is dropped. There is an estimate where the sample of least
     /// delay, the newest of these, arrived later than the one that gave the last estimate.
     pub fn put(&mut self, s: Sample, now: u64) -> Option<Estimate>
-        ensures stages { self.new.samples
-            ≡ next_samples s (drift_of (now - self.old.put_at) PHI) self.old.samples }
-        ensures put_at { self.new.put_at ≡ now }
-        ensures estimate { result
-            ≡ estimate_of self.old.given_at (arranged delay_of self.new.samples) }
-        ensures given_at { self.new.given_at ≡ last_given self.old.given_at result }
+        ensures estimate { result ≡ estimate_after self.old s now }
+        ensures after { self.new ≡ filter_after self.old s now }
     {
         let by = drift(now.saturating_sub(self.put_at), PHI);
         self.samples = make_next(s, by, &self.samples);
@@ -75,7 +68,7 @@ impl Filter {
     }
 
     /// The eight stages, newest first; a stage without a sample is None.
-    pub fn stages(&self) -> [Option<Sample>; 8]
+    pub fn stages(&self) -> [Option<Sample>; STAGES]
         ensures { result ≡ stages_of self.now.samples }
     {
         make_stages(&self.samples)

@@ -1,19 +1,48 @@
--- Worked values: what a server that opens publishes of itself, status words of peers, texts of reference
+-- Worked values: the constants, what a server that opens publishes of itself, status words of peers, texts of reference
 -- identifiers, and datagrams that answer (RFC 9327, sections 2, 3.1, 3.2, 3.4 and 4; RFC 5905, section 7.3).
-use Rattle.std.proofs.Common.{◌≡◌, ℕ, Bool, true, false, pos, replicate, lit≤, [], ◌∷◌, Some, None, refl}
+use Rattle.std.proofs.Common.{◌≡◌, ◌+◌, ◌-◌, ◌<◌, ◌≤◌, ℕ, Bool, true, false, pos, replicate, lit≤, lit<, [], ◌∷◌, Some, None, refl}
 use Rattle.std.specs.Prelude.{codes}
 use Rattle.std.specs.Fmt.{digits}
 use Rattle.hex.specs.Hex.{encode_with}
 use Rattle.net_addr.specs.declared.addr.Ip.TheVariants.{V4}
 use Rattle.mode6_frame.specs.declared.message.Head.{Head}
+use Rattle.mode6_frame.specs.declared.message.TheConstants.{MAX_BODY}
 use Rattle.mode6_frame.specs.Frames.{head_of}
 use Rattle.sys_vars.specs.declared.variables.VarsFault.TheVariants.{UnknownAssociation, UnknownName}
+use Rattle.sys_vars.specs.declared.asked.TheConstants.{MAX_NAMES}
+use Rattle.sys_vars.specs.declared.names.TheConstants.{LEAP, STRATUM, REFID, UNKNOWN_NAME}
 use Rattle.sys_vars.specs.declared.peer_view.PeerView.{PeerView}
+use Rattle.sys_vars.specs.declared.peer_views.TheConstants.{MAX_PEERS}
 use Rattle.sys_vars.specs.declared.published.Record.{Record}
 use Rattle.sys_vars.specs.Opening.{opening_system, opening_record}
 use Rattle.sys_vars.specs.Status.{peer_status_of, system_status_of}
 use Rattle.sys_vars.specs.Variables.{refid_text, variable_of, variables_of, vars_fault_of}
 use Rattle.sys_vars.specs.Answers.{plain_text, vars_gram, text_gram}
+
+MAX_PEERS-is : MAX_PEERS ≡ 32
+MAX_PEERS-is = refl
+
+MAX_NAMES-is : MAX_NAMES ≡ 234
+MAX_NAMES-is = refl
+
+-- so many names of one octet with commas between them stand in a body, and no more
+as-many-names : MAX_NAMES + (MAX_NAMES - 1) ≤ MAX_BODY
+as-many-names = lit≤ tt
+
+no-more-names : MAX_BODY < MAX_NAMES + 1 + MAX_NAMES
+no-more-names = lit< tt
+
+LEAP-is : LEAP ≡ 1
+LEAP-is = refl
+
+STRATUM-is : STRATUM ≡ 2
+STRATUM-is = refl
+
+REFID-is : REFID ≡ 6
+REFID-is = refl
+
+UNKNOWN_NAME-is : UNKNOWN_NAME ≡ 255
+UNKNOWN_NAME-is = refl
 
 -- the clock is not synchronized, and one event came, whose code is 1
 opening-status : system_status_of opening_system ≡ 0xc011
@@ -87,6 +116,11 @@ gps-text = refl
 address-text : refid_text 2 (127 ∷ 0 ∷ 0 ∷ 1 ∷ []) ≡ codes "127.0.0.1"
 unfolding refid_text digits
 address-text = refl
+
+-- and one of the greatest stratum
+last-address-text : refid_text 15 (127 ∷ 0 ∷ 0 ∷ 1 ∷ []) ≡ codes "127.0.0.1"
+unfolding refid_text digits
+last-address-text = refl
 
 -- no code, for want of a letter
 blank-text : refid_text 16 (0 ∷ 0 ∷ 0 ∷ 0 ∷ []) ≡ codes "0x00000000"

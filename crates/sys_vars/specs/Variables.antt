@@ -31,15 +31,15 @@ refid_text stratum refid =
 
 -- the text of the variable of this number
 abbrev pub text_of_variable : System → ℕ → List ℕ
-text_of_variable s number =
-    if number == LEAP then decimal s.leap
-    else (if number == STRATUM then decimal s.stratum
-    else refid_text s.stratum s.refid)
+text_of_variable system number =
+    if number == LEAP then decimal system.leap
+    else (if number == STRATUM then decimal system.stratum
+    else refid_text system.stratum system.refid)
 
 -- the variable of this number, if there is one
 unfoldable pub variable_of : System → ℕ → Option Item
-variable_of s number =
-    option_map (λ name. record { name = name; value = Some (text_of_variable s number) }) (name_of number)
+variable_of system number =
+    option_map (λ name. record { name = name; value = Some (text_of_variable system number) }) (name_of number)
 
 -- the numbers of all variables
 abbrev pub all_numbers : List ℕ
@@ -51,7 +51,7 @@ asked_numbers names = if length names == 0 then all_numbers else names
 
 -- the variables that are asked for, in their order
 abbrev pub variables_of : System → List ℕ → List Item
-variables_of s names = filter_map (variable_of s) (asked_numbers names)
+variables_of system names = filter_map (variable_of system) (asked_numbers names)
 
 -- no variable has this number
 abbrev pub is_unknown : ℕ → Bool

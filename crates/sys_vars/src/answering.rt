@@ -34,16 +34,16 @@ pub const BAD_NAME: u8 = 5;
 pub fn answer(
     alloc: Global,
     rec: &Record,
-    a: &Asked,
+    asked: &Asked,
     _context: &Context,
 ) -> Result<Answer, AllocError>
-    ensures value { IfOk result (λ given. given ≡ answer_of rec.now a.now) }
+    ensures value { IfOk result (λ given. given ≡ answer_of rec.now asked.now) }
     ensures short { IfOk result IsWithin }
 {
-    if is_refused(rec, a) {
+    if is_refused(rec, asked) {
         return Ok(Answer::Ignored);
     }
-    let gram = gram(alloc, rec, a)?;
+    let gram = gram(alloc, rec, asked)?;
     let mut grams = Vec::new(alloc);
     grams.push(gram)?;
     Ok(Answer::Given {
@@ -53,23 +53,25 @@ pub fn answer(
 }
 
 /// Whether the restrict flags of the sender refuse the request.
-fn is_refused(rec: &Record, a: &Asked) -> bool
-    ensures { result ≡ is_refused rec.now a.now }
+fn is_refused(rec: &Record, asked: &Asked) -> bool
+    ensures { result ≡ is_refused rec.now asked.now }
 {
-    let flags = flags_for(&rec.rules, &a.from.ip);
+    let flags = flags_for(&rec.rules, &asked.from.ip);
     has_flag(flags, IGNORE) || has_flag(flags, NOQUERY)
 }
 
-fn gram(alloc: Global, rec: &Record, a: &Asked) -> Result<Octets, AllocError>
-    ensures value { IfOk result (λ gram. gram ≡ gram_of rec.now a.now) }
+/// The datagram that answers a request.
+fn gram(alloc: Global, rec: &Record, asked: &Asked) -> Result<Octets, AllocError>
+    ensures value { IfOk result (λ gram. gram ≡ gram_of rec.now asked.now) }
     ensures short { IfOk result (λ gram. length gram ≤ HEAD_LEN + MAX_BODY) }
 {
-    match &a.what {
-        What::Bad(code) => Ok(error_gram(&a.head, *code)),
-        What::Vars(names) => vars_gram(alloc, rec, &a.head, names.as_slice()),
+    match &asked.what {
+        What::Bad(code) => Ok(error_gram(&asked.head, *code)),
+        What::Vars(names) => vars_gram(alloc, rec, &asked.head, names.as_slice()),
     }
 }
 
+/// The datagram that gives the variables of these numbers, or says why it does not.
 fn vars_gram(alloc: Global, rec: &Record, head: &Head, names: &[u8]) -> Result<Octets, AllocError>
     ensures value { IfOk result (λ gram. gram ≡ vars_gram rec.now head.now names.now) }
     ensures short { IfOk result (λ gram. length gram ≤ HEAD_LEN + MAX_BODY) }
@@ -82,6 +84,7 @@ fn vars_gram(alloc: Global, rec: &Record, head: &Head, names: &[u8]) -> Result<O
     }
 }
 
+/// The datagram that gives these items, where their text fits.
 #[tactic(auto, unfolding(crate::specs::Answers::text_gram))]
 fn text_gram(alloc: Global, rec: &Record, head: &Head, items: &Items) -> Result<Octets, AllocError>
     ensures value { IfOk result (λ gram. gram ≡ text_gram rec.now head.now items.now) }
@@ -95,6 +98,7 @@ fn text_gram(alloc: Global, rec: &Record, head: &Head, items: &Items) -> Result<
     }
 }
 
+/// The response whose body is this text, whole in one datagram.
 fn response(head: &Head, status: u16, text: &[u8]) -> Octets
     requires { length text.now ≤ MAX_BODY }
     ensures value { result ≡ spelled_frame (response_parts head.now status text.now) }
@@ -116,23 +120,26 @@ fn response(head: &Head, status: u16, text: &[u8]) -> Octets
     })
 }
 
+/// The text of items, as one datagram holds it.
 fn plain_text(alloc: Global, items: &Items) -> Result<Vec<u8>, AllocError>
     ensures { IfOk result (λ text. text.items ≡ plain_text items.now) }
 {
     let mut text = Vec::new(alloc);
-    for i in 0..items.len() {
-        put_item(&mut text, separator(i), items.get(i))?;
+    for place in 0..items.len() {
+        put_item(&mut text, separator(place), items.get(place))?;
     }
     text.extend_from_slice(b"\r\n")?;
     Ok(text)
 }
 
-fn separator(i: usize) -> &'static [u8]
-    ensures { result.now ≡ (if i == 0 then [] else codes ", ") }
+/// What stands in front of the item at a place.
+fn separator(place: usize) -> &'static [u8]
+    ensures { result.now ≡ (if place == 0 then [] else codes ", ") }
 {
-    if i == 0 { b"" } else { b", " }
+    if place == 0 { b"" } else { b", " }
 }
 
+/// Appends an item, and before it what separates it from the last.
 fn put_item(text: &mut Vec<u8>, before: &[u8], item: &Item) -> Result<(), AllocError>
     ensures { OnOk result
         (text.new.items ≡ text.old.items ++ before.now ++ item_text item.now) }

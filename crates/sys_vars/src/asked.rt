@@ -26,6 +26,7 @@ impl Model for NameNumbers {
 }
 
 impl NameNumbers {
+    /// These numbers.
     pub fn of(numbers: Vec<u8>) -> NameNumbers
         requires { length numbers.items ≤ MAX_NAMES }
         ensures { result ≡ numbers.items }
@@ -33,6 +34,7 @@ impl NameNumbers {
         NameNumbers { numbers }
     }
 
+    /// How many there are.
     pub fn len(&self) -> usize
         ensures len { result ≡ length self.now }
         ensures at_most { length self.now ≤ MAX_NAMES }
@@ -40,6 +42,7 @@ impl NameNumbers {
         self.numbers.len()
     }
 
+    /// The numbers as a slice.
     pub fn as_slice(&self) -> &[u8]
         ensures same { result.now ≡ self.now }
         ensures at_most { length self.now ≤ MAX_NAMES }

@@ -1,21 +1,22 @@
-ghost use Rattle.std.specs.Prelude.{◌≡◌, ◌≤◌, ◌<◌, IfOk, Some, length, slice_get};
+ghost use Rattle.std.specs.Prelude.{◌≡◌, ◌≤◌, ◌<◌, ◌++◌, [], ◌∷◌, IfOk, IsOk, Some, length, slice_get, vec_capacity};
 ghost use Rattle.sys_vars.specs.declared.peer_views.TheConstants.{MAX_PEERS};
 
 use crate::peer_view::PeerView;
-use std::alloc::AllocError;
+use std::alloc::{AllocError, Global};
 use std::marker::Model;
 
 /// The most peers.
 pub const MAX_PEERS: usize = 32;
 
-/// What is published of the peers, in the order of their association numbers.
+/// What is published of the peers, in the order of their association numbers. There is room for the
+/// most peers from the start, so that views are pushed, and made equal to others, without memory.
 #[derive(Drop)]
 pub struct PeerViews {
     views: Vec<PeerView>,
 }
 
 impl Model for PeerViews {
-    ghost use Rattle.std.specs.Prelude.{◌≤◌, List, length};
+    ghost use Rattle.std.specs.Prelude.{◌≤◌, List, length, vec_capacity};
     ghost use Rattle.sys_vars.specs.declared.peer_view.PeerView.{PeerView};
     ghost use Rattle.sys_vars.specs.declared.peer_views.TheConstants.{MAX_PEERS};
 
@@ -23,23 +24,62 @@ impl Model for PeerViews {
 
     ghost view = { λ v. v.views.items };
 
-    ghost invariant = { λ v. length v.views.items ≤ MAX_PEERS };
+    ghost invariant = { λ v. (length v.views.items ≤ MAX_PEERS)
+        × (MAX_PEERS ≤ vec_capacity v.views) };
 }
 
 impl PeerViews {
-    pub fn of(views: Vec<PeerView>) -> PeerViews
-        requires { length views.items ≤ MAX_PEERS }
-        ensures { result ≡ views.items }
+    /// No views.
+    pub fn new(alloc: Global) -> Result<PeerViews, AllocError>
+        ensures { IfOk result (λ views. views ≡ []) }
     {
-        PeerViews { views }
+        let views = Vec::with_capacity(alloc, MAX_PEERS)?;
+        Ok(PeerViews { views })
+    }
+
+    /// These views. Memory is taken only where there is no room for the most peers yet.
+    pub fn of(views: Vec<PeerView>) -> Result<PeerViews, AllocError>
+        requires { length views.items ≤ MAX_PEERS }
+        ensures value { IfOk result (λ of. of ≡ views.items) }
+        ensures roomy { MAX_PEERS ≤ vec_capacity views → IsOk result }
+    {
+        let mut views = views;
+        views.reserve(MAX_PEERS - views.len())?;
+        Ok(PeerViews { views })
+    }
+
+    /// Appends the view of one peer more. Takes no memory.
+    pub fn push(&mut self, view: PeerView)
+        requires { length self.old < MAX_PEERS }
+        ensures { self.new ≡ self.old ++ view ∷ [] }
+    {
+        self.views.push_reserved(view);
+    }
+
+    /// Takes all views out. Takes no memory.
+    pub fn clear(&mut self)
+        ensures { self.new ≡ [] }
+    {
+        self.views.clear();
+    }
+
+    /// Makes these views equal to others. Takes no memory.
+    pub fn assign(&mut self, from: &PeerViews)
+        ensures { self.new ≡ from.now }
+    {
+        self.views.clear();
+        let Ok(()) = self.views.extend_from_slice(from.views.as_slice()) else {
+            unreachable!()
+        };
     }
 
     /// The same views once more.
     pub fn copy(&self) -> Result<PeerViews, AllocError>
         ensures { IfOk result (λ views. views ≡ self.now) }
     {
-        let views = Vec::from_slice(*self.views.allocator(), self.views.as_slice())?;
-        Ok(PeerViews { views })
+        let mut views = PeerViews::new(*self.views.allocator())?;
+        views.assign(self);
+        Ok(views)
     }
 
     /// How many peers there are.
@@ -57,5 +97,24 @@ impl PeerViews {
         ensures at_most { length self.now ≤ MAX_PEERS }
     {
         &self.views[place]
+    }
+}
+
+#[cfg(test)]
+mod tests {
+    use super::*;
+    use crate::peer_view::unheard;
+    use std::test::Fail;
+
+    #[test]
+    fn views_are_pushed_assigned_and_cleared(rt: HostRuntime) -> Result<(), Fail> {
+        let mut views = PeerViews::new(rt.alloc())?;
+        views.push(unheard());
+        let mut others = PeerViews::new(rt.alloc())?;
+        others.assign(&views);
+        views.clear();
+        assert_eq!(rt; (views.len(), others.len()), (0, 1));
+        assert_eq!(rt; *others.get(0), unheard());
+        Ok(())
     }
 }

@@ -5,7 +5,7 @@ use crate::peer_views::PeerViews;
 use crate::system::System;
 use access_rules::{Rate, Rules};
 use discipline::{SoftClock, State};
-use fixed_time::{Ntp64, Span};
+use fixed_time::{MAX_DISPERSION, Ntp64, Span};
 use std::alloc::{AllocError, Global};
 
 /// What a server publishes: the values of the system, of its peers and of its clock, of one moment,
@@ -32,11 +32,12 @@ impl Record {
     pub fn opening(alloc: Global, origin: Ntp64) -> Result<Record, AllocError>
         ensures { IfOk result (IsOpening origin) }
     {
+        let peers = PeerViews::new(alloc)?;
         let rules = Rules::plain(alloc)?;
         Ok(Record {
             epoch: 0,
             system: opening_system(),
-            peers: PeerViews::of(Vec::new(alloc)),
+            peers,
             rules,
             rate: Rate::plain(),
             clock: SoftClock {
@@ -74,7 +75,7 @@ fn opening_system() -> System
         stratum: 16,
         precision: -20,
         root_delay: 0,
-        root_disp: 16 << 32,
+        root_disp: MAX_DISPERSION,
         refid: *b"INIT",
         reference: Ntp64(0),
         at: 0,
@@ -103,7 +104,7 @@ mod tests {
         let mut record = Record::opening(rt.alloc(), Ntp64(7))?;
         record.epoch = 3;
         record.system.stratum = 2;
-        record.peers = PeerViews::of(vec![in rt.alloc(); unheard(); 1]?);
+        record.peers = PeerViews::of(vec![in rt.alloc(); unheard(); 1]?)?;
         record
             .rules
             .add(&prefix_of(&Ip::V4([10, 0, 0, 0]), 8), IGNORE)?;

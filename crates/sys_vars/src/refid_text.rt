@@ -26,6 +26,7 @@ pub fn refid_text(alloc: Global, stratum: u8, refid: &[u8; 4]) -> Result<Text, A
     }
 }
 
+/// An IPv4 address in dotted decimal.
 fn dotted(alloc: Global, octets: &[u8; 4]) -> Result<Text, AllocError>
     ensures { IfOk result (λ text. text ≡ ipv4_text octets.now) }
 {
@@ -37,20 +38,23 @@ fn dotted(alloc: Global, octets: &[u8; 4]) -> Result<Text, AllocError>
     Ok(Text::of(text))
 }
 
-fn put_decimal(text: &mut Vec<u8>, n: u8) -> Result<(), AllocError>
-    ensures { OnOk result (text.new.items ≡ text.old.items ++ decimal n) }
+/// Appends an octet in decimal digits.
+fn put_decimal(text: &mut Vec<u8>, octet: u8) -> Result<(), AllocError>
+    ensures { OnOk result (text.new.items ≡ text.old.items ++ decimal octet) }
 {
     let mut digits = Buffer::new();
-    text.extend_from_slice(digits.format(n).as_bytes())
+    text.extend_from_slice(digits.format(octet).as_bytes())
 }
 
-fn put_after_point(text: &mut Vec<u8>, n: u8) -> Result<(), AllocError>
-    ensures { OnOk result (text.new.items ≡ text.old.items ++ codes "." ++ decimal n) }
+/// Appends a point, and an octet in decimal digits.
+fn put_after_point(text: &mut Vec<u8>, octet: u8) -> Result<(), AllocError>
+    ensures { OnOk result (text.new.items ≡ text.old.items ++ codes "." ++ decimal octet) }
 {
     text.push(b'.')?;
-    put_decimal(text, n)
+    put_decimal(text, octet)
 }
 
+/// Whether letters or digits stand before the first zero octet, and nothing else does.
 fn is_code(octets: &[u8; 4]) -> bool
     ensures { result ≡ is_code octets.now }
 {
@@ -58,12 +62,14 @@ fn is_code(octets: &[u8; 4]) -> bool
     !code.is_empty() && is_alphanumeric(code)
 }
 
+/// Whether all are letters or digits.
 fn is_alphanumeric(octets: &[u8]) -> bool
     ensures { result ≡ list_all is_ascii_alphanumeric octets.now }
 {
     octets.iter().all(|octet| octet.is_ascii_alphanumeric())
 }
 
+/// What stands before the first zero octet.
 fn before_zero(octets: &[u8]) -> &[u8]
     ensures { result.now ≡ before_zero octets.now }
 {
@@ -73,18 +79,21 @@ fn before_zero(octets: &[u8]) -> &[u8]
     }
 }
 
+/// The place of the first zero octet.
 fn first_zero(octets: &[u8]) -> Option<usize>
     ensures { result ≡ position (λ octet. octet == 0) octets.now }
 {
     octets.iter().position(|&octet| octet == 0)
 }
 
+/// A code, as it stands.
 fn code(alloc: Global, octets: &[u8; 4]) -> Result<Text, AllocError>
     ensures { IfOk result (λ text. text ≡ before_zero octets.now) }
 {
     Ok(Text::of(Vec::from_slice(alloc, before_zero(octets))?))
 }
 
+/// All four octets in hexadecimal digits.
 fn hexadecimal(alloc: Global, octets: &[u8; 4]) -> Result<Text, AllocError>
     ensures { IfOk result (λ text. text ≡ codes "0x" ++ encode_lower octets.now) }
 {

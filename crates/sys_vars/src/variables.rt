@@ -40,6 +40,7 @@ pub fn items(alloc: Global, rec: &Record, assoc: u16, names: &[u8]) -> Result<It
     }
 }
 
+/// Why the variables are not given, if they are not.
 fn first_fault(assoc: u16, names: &[u8]) -> Option<VarsFault>
     ensures { result ≡ vars_fault_of assoc names.now }
 {
@@ -52,6 +53,7 @@ fn first_fault(assoc: u16, names: &[u8]) -> Option<VarsFault>
     }
 }
 
+/// The fault of an unknown name at a place.
 fn unknown_at(place: usize) -> VarsFault
     ensures { result ≡ VarsFault.UnknownName (told_place place) }
 {
@@ -60,18 +62,21 @@ fn unknown_at(place: usize) -> VarsFault
     }
 }
 
+/// The place of the first number that is no variable's.
 fn first_unknown(names: &[u8]) -> Option<usize>
     ensures { result ≡ position is_unknown names.now }
 {
     names.iter().position(|&number| is_unknown(number))
 }
 
+/// Whether no variable has this number.
 fn is_unknown(number: u8) -> bool
     ensures { result ≡ is_unknown number }
 {
     !matches!(number, LEAP | STRATUM | REFID)
 }
 
+/// The numbers that are asked for: all, where none is named.
 fn asked(names: &[u8]) -> &[u8]
     ensures { result.now ≡ asked_numbers names.now }
 {
@@ -82,6 +87,7 @@ fn asked(names: &[u8]) -> &[u8]
     }
 }
 
+/// The variables of these numbers.
 fn variables(alloc: Global, system: &System, numbers: &[u8]) -> Result<Vec<Item>, AllocError>
     ensures { IfOk result (λ items. items.items ≡ filter_map (variable_of system.now) numbers.now) }
 {
@@ -92,6 +98,7 @@ fn variables(alloc: Global, system: &System, numbers: &[u8]) -> Result<Vec<Item>
     Ok(items)
 }
 
+/// Appends an item, if there is one.
 fn keep(items: &mut Vec<Item>, item: Option<Item>) -> Result<(), AllocError>
     ensures { OnOk result (items.new.items ≡ items.old.items ++ option_to_list item) }
 {
@@ -101,6 +108,7 @@ fn keep(items: &mut Vec<Item>, item: Option<Item>) -> Result<(), AllocError>
     Ok(())
 }
 
+/// The variable of a number, if there is one.
 #[tactic(auto, unfolding(crate::specs::Variables::variable_of))]
 fn variable(alloc: Global, system: &System, number: u8) -> Result<Option<Item>, AllocError>
     ensures { IfOk result (λ item. item ≡ variable_of system.now number) }
@@ -117,6 +125,7 @@ fn variable(alloc: Global, system: &System, number: u8) -> Result<Option<Item>, 
     }
 }
 
+/// The item with this name and value.
 fn given(alloc: Global, name: &[u8], value: Text) -> Result<Option<Item>, AllocError>
     ensures { IfOk result
         (λ item. item ≡ Some (record { name = name.now; value = Some value })) }
@@ -128,11 +137,12 @@ fn given(alloc: Global, name: &[u8], value: Text) -> Result<Option<Item>, AllocE
     }))
 }
 
-fn decimal_text(alloc: Global, n: u8) -> Result<Text, AllocError>
-    ensures { IfOk result (λ text. text ≡ decimal n) }
+/// A number in decimal digits.
+fn decimal_text(alloc: Global, number: u8) -> Result<Text, AllocError>
+    ensures { IfOk result (λ text. text ≡ decimal number) }
 {
     let mut digits = Buffer::new();
-    Ok(Text::of(Vec::from_slice(alloc, digits.format(n).as_bytes())?))
+    Ok(Text::of(Vec::from_slice(alloc, digits.format(number).as_bytes())?))
 }
 
 impl From<AllocError> for VarsFault {
