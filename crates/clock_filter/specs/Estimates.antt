@@ -37,7 +37,7 @@ abbrev pub is_later : Option ℕ → ℕ → Bool
 is_later None at = true
 is_later (Some last) at = nat_lt last at
 
--- the first sample gives an estimate where it is later than the one that gave the last
+-- the estimate of samples in order of delay: there is one where the first is later than the sample that gave the last
 abbrev pub estimate_of : Option ℕ → List Sample → Option Estimate
 estimate_of last [] = None
 estimate_of last (first ∷ rest) =

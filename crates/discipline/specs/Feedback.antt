@@ -68,7 +68,7 @@ answer_of Kept = change.Ignored
 answer_of Adjusted = change.Adjusted
 answer_of Stepped = change.Stepped
 
--- what an update answers
+-- what an update answers: by the row of the table, or a panic
 abbrev pub change_of : LoopState → ℤ → ℕ → Change
 change_of old offset now = if is_panic old.state offset then change.Panic else answer_of (row_for old offset now).time
 
@@ -102,6 +102,6 @@ abbrev pub IsIgnored : LoopState → ℤ → ℕ → Type 0
 IsIgnored old offset now =
     (¬ (IsRefused old offset)) × (now - old.since < STEPOUT) × ((old.state ≡ Freq) ⊎ ((STEP_THRESHOLD < unsigned_abs offset) × ((old.state ≡ Spik) ⊎ (old.state ≡ Sync))))
 
--- after that, SYNC is SPIK and the stepout threshold counts from now, and nothing else changes
+-- after an ignored update SYNC is SPIK, whose stepout threshold counts from now, and nothing else changes
 abbrev pub ignoring : LoopState → ℕ → LoopState
 ignoring old now = elim old.state [ Sync ↦ record old { state = Spik; since = now } | _ ↦ old ]

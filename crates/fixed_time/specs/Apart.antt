@@ -6,6 +6,6 @@ use Rattle.fixed_time.specs.declared.apart.TheConstants.{CAP}
 abbrev pub apart_of : ℤ → ℤ → ℕ
 apart_of x y = min (unsigned_abs (x -ℤ y)) CAP
 
--- and its square
+-- the square of how far two offsets are apart, their distance being at most the cap
 abbrev pub squared_apart_of : ℤ → ℤ → ℕ
 squared_apart_of x y = apart_of x y * apart_of x y

@@ -11,6 +11,6 @@ unfoldable pub root_within : ℕ → ℕ → ℕ
 root_within n zero = zero
 root_within n (suc k) = if nat_le (suc k * suc k) n then suc k else root_within n k
 
--- that number, whatever its size
+-- the greatest number whose square is at most n
 unfoldable pub root : ℕ → ℕ
 root n = root_within n n

@@ -12,7 +12,7 @@ use Rattle.select_cluster.specs.Selecting.{inside}
 abbrev pub rank_of : Candidate → ℕ
 rank_of c = (c.stratum * 2 ^ 64 + c.distance) * 2 ^ 16 + c.peer
 
--- the candidates whose offsets are inside, in that order
+-- the candidates whose offsets are inside, by stratum, then distance, then peer number
 abbrev pub survivors_of : List Candidate → Interval → List Candidate
 survivors_of cs i = arranged rank_of (filter (inside i.lo i.hi) cs)
 

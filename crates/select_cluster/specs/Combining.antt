@@ -12,7 +12,7 @@ weight_of c = max 1 (2 ^ 48 / max 1 c.distance)
 abbrev pub weighted : List Candidate → ℤ
 weighted cs = fold (λ total c. total +ℤ pos (weight_of c) *ℤ c.offset.0) (pos 0) cs
 
--- that sum by the sum of the weights, toward zero
+-- the mean of the offsets, each as often as its survivor weighs, toward zero
 abbrev pub combined_offset : List Candidate → ℤ
 combined_offset cs = int_div (weighted cs) (pos (sum_by weight_of cs))
 
