@@ -38,19 +38,3 @@ impl Grams {
         &self.datagrams[i]
     }
 }
-
-#[cfg(test)]
-mod tests {
-    use super::*;
-    use std::test::Fail;
-
-    #[test]
-    fn datagrams_keep_their_order(rt: HostRuntime) -> Result<(), Fail> {
-        let mut second = Octets::new();
-        second.push(2);
-        let grams = Grams::of(vec![in rt.alloc(); Octets::new(), second]?);
-        assert_eq!(rt; grams.len(), 2);
-        assert_eq!(rt; grams.get(1).as_slice(), [2].as_slice());
-        Ok(())
-    }
-}

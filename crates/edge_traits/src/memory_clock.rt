@@ -55,20 +55,3 @@ impl Clock for MemoryClock {
         reading
     }
 }
-
-#[cfg(test)]
-mod tests {
-    use super::*;
-    use std::test::Fail;
-
-    #[test]
-    fn the_last_reading_comes_again(rt: HostRuntime) -> Result<(), Fail> {
-        let mut clock = MemoryClock::of(vec![in rt.alloc(); 5, 8]?);
-        for want in [5, 8, 8] {
-            assert_eq!(rt; clock.now(), want);
-        }
-        let mut empty = MemoryClock::of(Vec::new(rt.alloc()));
-        assert_eq!(rt; empty.now(), 0);
-        Ok(())
-    }
-}

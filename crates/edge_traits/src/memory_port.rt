@@ -221,26 +221,4 @@ mod tests {
         assert!(rt; matches!(port.events(), [Event::Took(_, _), Event::Silence]));
         Ok(())
     }
-
-    #[test]
-    fn the_give_that_is_numbered_fails(rt: HostRuntime) -> Result<(), Fail> {
-        let failing = vec![in rt.alloc(); 1]?;
-        let mut port = MemoryPort::of(rt.alloc(), Vec::new(rt.alloc()), failing);
-        for (octets, want) in [
-            (b"first", Ok(())),
-            (b"wrong", Err(PortFault::Failed)),
-            (b"third", Ok(())),
-        ] {
-            assert_eq!(rt; port.give(&CLIENT, octets), want);
-        }
-        match port.events() {
-            [Event::Sent(_, first), Event::Sent(to, third)] => {
-                assert_eq!(rt; first.as_slice(), b"first".as_slice());
-                assert_eq!(rt; third.as_slice(), b"third".as_slice());
-                assert_eq!(rt; *to, CLIENT);
-            }
-            _ => assert!(rt; false, "two datagrams were given"),
-        }
-        Ok(())
-    }
 }

@@ -68,19 +68,3 @@ impl Sink for MemorySink {
         Ok(from.len())
     }
 }
-
-#[cfg(test)]
-mod tests {
-    use super::*;
-    use std::test::Fail;
-
-    #[test]
-    fn the_write_that_is_numbered_fails(rt: HostRuntime) -> Result<(), Fail> {
-        let mut sink = MemorySink::of(rt.alloc(), vec![in rt.alloc(); 1]?);
-        assert_eq!(rt; sink.write(b"answered ")?, 9);
-        assert_eq!(rt; sink.write(b"lost"), Err(SinkFault::Failed));
-        assert_eq!(rt; sink.write(b"1\n")?, 2);
-        assert_eq!(rt; sink.contents(), b"answered 1\n".as_slice());
-        Ok(())
-    }
-}

@@ -71,27 +71,3 @@ impl Source for MemorySource {
         Ok(count)
     }
 }
-
-#[cfg(test)]
-mod tests {
-    use super::*;
-    use std::test::Fail;
-
-    #[test]
-    fn the_read_that_is_numbered_fails(rt: HostRuntime) -> Result<(), Fail> {
-        let alloc = rt.alloc();
-        let octets = Vec::from_slice(alloc, b"server")?;
-        let mut source = MemorySource::of(octets, vec![in alloc; 1]?);
-        let mut into = *b"----";
-        for (want, left, what) in [
-            (Ok(4), b"serv", "a slice that is filled"),
-            (Err(Failed), b"serv", "the fault"),
-            (Ok(2), b"errv", "the last octets"),
-            (Ok(0), b"errv", "the end"),
-        ] {
-            assert_eq!(rt; source.read(&mut into), want, "{what}");
-            assert_eq!(rt; into, *left, "{what}");
-        }
-        Ok(())
-    }
-}

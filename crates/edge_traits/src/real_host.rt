@@ -180,6 +180,8 @@ mod tests {
         let salt = host.salt();
         assert_eq!(rt; host.salt().0, salt.0);
         assert_ne!(rt; salt.0, [0; 16]);
+        let reading = host.clock().now();
+        assert!(rt; host.clock().now() >= reading);
 
         let at = Addr {
             ip: Ip::V4([127, 0, 0, 1]),
@@ -189,13 +191,6 @@ mod tests {
         let taken = port.local().ok_or("the system tells no address")?;
         assert!(rt; matches!(host.bind(&taken), Err(HostFault::Failed)));
         Ok(())
-    }
-
-    #[test]
-    fn the_clocks_of_a_host_begin_together(rt: HostRuntime) {
-        let mut host = RealHost::new(rt);
-        let reading = host.clock().now();
-        assert!(rt; host.clock().now() >= reading);
     }
 
     #[test]

@@ -126,16 +126,6 @@ mod tests {
     }
 
     #[test]
-    fn octets_that_come_one_by_one_are_read_whole(rt: HostRuntime) -> Result<(), Fail> {
-        let alloc = rt.alloc();
-        let octets = Vec::from_slice(alloc, b"listen")?;
-        let mut source = Sparing(MemorySource::of(octets, Vec::new(alloc)));
-        let whole = read_whole(alloc, &mut source, 6)?;
-        assert_eq!(rt; whole.as_slice(), b"listen".as_slice());
-        Ok(())
-    }
-
-    #[test]
     fn three_of_five_octets_are_read_before_they_are_too_long(rt: HostRuntime) -> Result<(), Fail> {
         let alloc = rt.alloc();
         let octets = Vec::from_slice(alloc, b"abcde")?;

@@ -41,17 +41,3 @@ impl Text {
         self.octets.as_slice()
     }
 }
-
-#[cfg(test)]
-mod tests {
-    use super::*;
-    use std::test::Fail;
-
-    #[test]
-    fn a_text_keeps_its_octets(rt: HostRuntime) -> Result<(), Fail> {
-        let name = Name::of(Vec::from_slice(rt.alloc(), b"ntp.keys")?);
-        assert_eq!(rt; name.len(), 8);
-        assert_eq!(rt; name.as_slice(), b"ntp.keys".as_slice());
-        Ok(())
-    }
-}
