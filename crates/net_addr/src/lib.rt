@@ -1,6 +1,6 @@
 //! Network addresses: an IP address with a port, prefixes of addresses, and their texts.
 //!
-//! Layer 1. Stands on: nothing.
+//! Layer 1. Stands on: `text_words`.
 //! Promises: every address's text is read back; nothing outside the grammar is read.
 #![tactic(auto)]
 

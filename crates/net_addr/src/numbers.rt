@@ -2,8 +2,7 @@ ghost use Rattle.std.specs.Prelude.{◌≡◌, ◌≢◌, ◌+◌, ◌^◌, ◌<
 ghost use Rattle.std.specs.Char.{digit_value};
 ghost use Rattle.net_addr.specs.Cuts.{cut_parts};
 
-use itoa::Buffer;
-use std::str;
+use text_words::read_decimal;
 
 /// What stands before the last mark of a text, and the decimal number after it, where that has no
 /// leading zeros.
@@ -48,16 +47,8 @@ fn read_number(digits: &[u8]) -> Option<u16>
     ensures fits { IfSome result (λ n. n < 2 ^ 16) }
     ensures only { (n : ℕ) → n < 2 ^ 16 → digits.now ≡ decimal n → result ≡ Some n }
 {
-    let Ok(text) = str::from_utf8(digits) else {
-        return None;
-    };
-    let Ok(n) = text.parse::<u16>() else {
-        return None;
-    };
-    // std takes a sign and leading zeros, which no number here has.
-    if Buffer::new().format(n).as_bytes() == digits {
-        Some(n)
-    } else {
-        None
+    match read_decimal(digits) {
+        Some(n) if n <= u32::from(u16::MAX) => Some(n as u16),
+        _ => None,
     }
 }

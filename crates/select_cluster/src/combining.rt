@@ -91,7 +91,8 @@ pub fn combine(survivors: &Survivors) -> Combined
     ensures jitter { result.jitter ≡ combined_jitter survivors.now }
     ensures system { result.system ≡ system_peer survivors.now }
     ensures capped { result.jitter ≤ CAP }
-    ensures member { (first : Candidate) × Contains survivors.now first × (first.peer ≡ result.system) }
+    ensures member { (first : Candidate) × Contains survivors.now first
+        × (first.peer ≡ result.system) }
 {
     let one = survivors.as_slice();
     Combined {

@@ -49,7 +49,8 @@ fn find_agreed(
     ensures found { IfSome result (λ i. (i.false_count ≡ false_count)
         × IsLeastAgreed candidates.now (length candidates.now - false_count) i.lo
         × IsGreatestAgreed candidates.now (length candidates.now - false_count) i.hi) }
-    ensures none { IfNone result ((x : ℤ) → ¬ IsAgreed candidates.now (length candidates.now - false_count) x) }
+    ensures none { IfNone result ((x : ℤ)
+        → ¬ IsAgreed candidates.now (length candidates.now - false_count) x) }
 {
     let gap = candidates.len() - false_count - 1;
     match first_meeting(lows, highs, gap, false_count) {
@@ -76,7 +77,8 @@ fn accept(
     requires minority { 2 * false_count < length candidates.now }
     requires low_ends { AreSortedEnds End.Low candidates.now lows.now }
     requires high_ends { AreSortedEnds End.High candidates.now highs.now }
-    ensures found { IfSome result (λ i. (i.false_count ≡ false_count) × IsAccepted candidates.now false_count i.lo i.hi) }
+    ensures found { IfSome result (λ i. (i.false_count ≡ false_count)
+        × IsAccepted candidates.now false_count i.lo i.hi) }
     ensures none { IfNone result ((lo hi : ℤ) → ¬ IsAccepted candidates.now false_count lo hi) }
 {
     match find_agreed(candidates, lows, highs, false_count) {
