@@ -1,4 +1,5 @@
 pub mod ArrivalLemmas
+pub mod ClientLemmas
 pub mod ListLemmas
 pub mod PlaceLemmas
 pub mod RowLemmas

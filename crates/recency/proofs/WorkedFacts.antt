@@ -1,15 +1,34 @@
--- Worked values of the client list: ages of exactly the limits and one unit below them, by hand.
+-- Our constants by their numbers, and worked values of the client list: ages of exactly the limits and one unit below them, by hand.
 use Rattle.std.proofs.Common.{◌≡◌, ◌≤◌, ◌*◌, ◌-◌, ◌+◌, ℕ, arith, List, [], ◌∷◌, Some, None, refl}
 use Rattle.net_addr.specs.declared.addr.Ip.{Ip}
 use Rattle.net_addr.specs.declared.addr.Ip.TheVariants.{V4, V6}
 use Rattle.access_rules.specs.declared.rate.Rate.{Rate}
 use Rattle.recency.specs.declared.limits.Limits.{Limits}
+use Rattle.recency.specs.declared.limits.TheConstants.{MAX_AGE, MAX_DEPTH, PLAIN_MAXAGE, PLAIN_MAXDEPTH, PLAIN_MINAGE, PLAIN_MINDEPTH}
 use Rattle.recency.specs.declared.row.Row.{Row}
 use Rattle.recency.specs.declared.visit.Visit.{Visit}
 use Rattle.recency.specs.declared.visit.Touched.TheVariants.{Added, Replaced, Untracked}
 use Rattle.recency.specs.Arrivals.{touch_answer, touched_rows}
 use Rattle.recency.specs.Rows.{find_row, newer, newest, told_rows}
 use Rattle.recency.specs.Sweeps.{swept_rows}
+
+MAX_DEPTH-is : MAX_DEPTH ≡ 16384
+MAX_DEPTH-is = refl
+
+MAX_AGE-is : MAX_AGE ≡ 2147483647
+MAX_AGE-is = refl
+
+PLAIN_MINDEPTH-is : PLAIN_MINDEPTH ≡ 600
+PLAIN_MINDEPTH-is = refl
+
+PLAIN_MAXDEPTH-is : PLAIN_MAXDEPTH ≡ 1024
+PLAIN_MAXDEPTH-is = refl
+
+PLAIN_MINAGE-is : PLAIN_MINAGE ≡ 64
+PLAIN_MINAGE-is = refl
+
+PLAIN_MAXAGE-is : PLAIN_MAXAGE ≡ 3600
+PLAIN_MAXAGE-is = refl
 
 -- whole seconds in 32.32
 abbrev seconds : ℕ → ℕ

@@ -7,7 +7,7 @@ use Rattle.recency.specs.declared.row.Row.{Row}
 use Rattle.recency.specs.declared.visit.Visit.{Visit}
 use Rattle.recency.specs.declared.visit.Touched.{Touched}
 use Rattle.recency.specs.declared.visit.Touched.TheVariants.{Known, Added, Replaced, Untracked}
-use Rattle.recency.specs.Rows.{find_row, others}
+use Rattle.recency.specs.Rows.{find_row, newest, others}
 
 -- a listed client's row after another arrival: it keeps its first one and when the client was told
 abbrev pub row_after : Row → Visit → ℕ → Row
@@ -92,6 +92,13 @@ touch_answer limits rows visit stamp = answer_by (find_row rows visit.ip) limits
 -- the rows after an arrival
 abbrev pub touched_rows : Limits → List Row → Visit → ℕ → List Row
 touched_rows limits rows visit stamp = rows_by (find_row rows visit.ip) limits rows visit stamp
+
+-- the client's row after such an answer, in the rows after it: the newest, and none where it is not tracked
+abbrev pub touched_row : Touched → List Row → Option Row
+touched_row Known rows = newest rows
+touched_row Added rows = newest rows
+touched_row (Replaced ip) rows = newest rows
+touched_row Untracked rows = None
 
 -- an answer to an arrival, and the rows after it
 pub record IsTouched (limits : Limits) (rows : List Row) (visit : Visit) (stamp : ℕ) (answer : Touched) (left : List Row) : Type 0 where

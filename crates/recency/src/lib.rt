@@ -16,7 +16,9 @@ pub mod steps;
 mod tests;
 pub mod visit;
 
-pub use limits::{Limits, MAX_DEPTH};
+pub use limits::{
+    Limits, MAX_AGE, MAX_DEPTH, PLAIN_MAXAGE, PLAIN_MAXDEPTH, PLAIN_MINAGE, PLAIN_MINDEPTH,
+};
 pub use list::Recency;
 pub use plain_list::PlainList;
 pub use row::Row;

@@ -1,9 +1,24 @@
 ghost use Rattle.std.specs.Prelude.{◌≡◌, ◌≤◌, ◌*◌, ◌^◌, ◌↔◌, IsSome, IfSome};
 ghost use Rattle.recency.specs.Limits.{AreLimits};
-ghost use Rattle.recency.specs.declared.limits.TheConstants.{MAX_DEPTH};
+ghost use Rattle.recency.specs.declared.limits.TheConstants.{MAX_DEPTH, PLAIN_MAXAGE, PLAIN_MAXDEPTH, PLAIN_MINAGE, PLAIN_MINDEPTH};
 
 /// The most rows that any client list may have.
 pub const MAX_DEPTH: u32 = 16_384;
+
+/// The greatest age that a configuration may ask for, in seconds: some 68 years.
+pub const MAX_AGE: u32 = 2_147_483_647;
+
+/// The plain mindepth, in rows.
+pub const PLAIN_MINDEPTH: u32 = 600;
+
+/// The plain maxdepth, in rows.
+pub const PLAIN_MAXDEPTH: u32 = 1_024;
+
+/// The plain minage, in seconds.
+pub const PLAIN_MINAGE: u32 = 64;
+
+/// The plain maxage, in seconds.
+pub const PLAIN_MAXAGE: u32 = 3_600;
 
 /// How many rows a client list may have, and how old they get. Our own rule, after the `mru` line
 /// of NTPsec's configuration. Ages are in 32.32 seconds since the last arrival.
@@ -48,16 +63,16 @@ impl Limits {
 
     /// The limits where nothing else is said: 600 to 1,024 rows, 64 to 3,600 seconds.
     pub fn plain() -> Limits
-        ensures mindepth { result.mindepth ≡ 600 }
-        ensures maxdepth { result.maxdepth ≡ 1024 }
-        ensures minage { result.minage ≡ 64 * 2 ^ 32 }
-        ensures maxage { result.maxage ≡ 3600 * 2 ^ 32 }
+        ensures mindepth { result.mindepth ≡ PLAIN_MINDEPTH }
+        ensures maxdepth { result.maxdepth ≡ PLAIN_MAXDEPTH }
+        ensures minage { result.minage ≡ PLAIN_MINAGE * 2 ^ 32 }
+        ensures maxage { result.maxage ≡ PLAIN_MAXAGE * 2 ^ 32 }
     {
         Limits {
-            mindepth: 600,
-            maxdepth: 1024,
-            minage: 64 << 32,
-            maxage: 3600 << 32,
+            mindepth: PLAIN_MINDEPTH,
+            maxdepth: PLAIN_MAXDEPTH,
+            minage: u64::from(PLAIN_MINAGE) << 32,
+            maxage: u64::from(PLAIN_MAXAGE) << 32,
         }
     }
 }

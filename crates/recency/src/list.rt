@@ -1,8 +1,9 @@
-ghost use Rattle.std.specs.Prelude.{◌≡◌, ◌≤◌, ℕ, ◌+◌, List, [], length, IsTrue, IfOk, OnOk, OnErr, IfSome, IsSome};
+ghost use Rattle.std.specs.Prelude.{◌≡◌, ◌≤◌, ◌<◌, ◌↔◌, ℕ, ◌+◌, List, [], length, IsTrue, IfOk, OnOk, OnErr, IfSome, IsSome, None};
 ghost use Rattle.std.specs.Option.{option_copied};
-ghost use Rattle.recency.specs.Arrivals.{has_new_row, touch_answer, touched_rows};
+ghost use Rattle.recency.specs.Arrivals.{has_new_row, touch_answer, touched_row, touched_rows};
 ghost use Rattle.recency.specs.Rows.{AreBefore, AreRows, find_row, newer, newest, told_rows};
 ghost use Rattle.recency.specs.Sweeps.{swept_rows};
+ghost use Rattle.recency.specs.declared.visit.Touched.TheVariants.{Untracked};
 
 use crate::limits::Limits;
 use crate::row::Row;
@@ -42,7 +43,7 @@ pub trait Recency: Drop {
         ensures limits { IfOk result (λ list. limits list ≡ under) };
 
     /// Takes an arrival in: a listed client's row moves to the end, another client's is added, is
-    /// put in the place of the oldest, or is not tracked. Memory is wanted for a new row only.
+    /// put in the place of the oldest, or is not tracked. A listed client takes no memory.
     fn touch<L: Ledger>(
         &mut self,
         visit: &Visit,
@@ -54,6 +55,14 @@ pub trait Recency: Drop {
             answer ≡ touch_answer (limits self.old) (rows self.old) visit.now stamp) }
         ensures rows { OnOk result (
             rows self.new ≡ touched_rows (limits self.old) (rows self.old) visit.now stamp) }
+
+        // The client's row is the newest, or it has none, exactly where it isn't tracked.
+        ensures client { IfOk result (λ answer.
+            find_row (rows self.new) visit.now.ip ≡ touched_row answer (rows self.new)) }
+        ensures untracked { IfOk result (λ answer.
+            (answer ≡ Untracked) ↔ (find_row (rows self.new) visit.now.ip ≡ None)) }
+
+        // Memory is wanted for a new row only.
         ensures memory { OnErr result (IsTrue (has_new_row (
             touch_answer (limits self.old) (rows self.old) visit.now stamp))) }
         ensures no_memory { OnErr result (rows self.new ≡ rows self.old) }
@@ -77,15 +86,17 @@ pub trait Recency: Drop {
         ensures rows { rows self.new ≡ swept_rows (limits self.old) (rows self.old) moment }
         ensures gone { result + length (rows self.new) ≡ length (rows self.old) }
 
-        // It stays a client list under its limits, and the steps are counted.
+        // It stays a client list under its limits. Each row that went is read, and one more.
         ensures limits { limits self.new ≡ limits self.old }
         ensures kept { AreRows (limits self.new) (rows self.new) }
-        ensures counted { steps.old ≤ steps.new }
+        ensures counted { steps.old + result ≤ steps.new }
+        ensures one_more { steps.new ≤ steps.old + result + 1 }
         ensures cost { steps.new ≤ steps.old + sweep_steps self.old };
 
     /// A client's row, or None where it isn't listed. Takes no memory.
     fn find<L: Ledger>(&self, ip: &Ip, steps: &mut Steps<L>) -> Option<Row>
         ensures row { result ≡ find_row (rows self.now) ip.now }
+        ensures read { IsSome result → steps.old < steps.new }
         ensures counted { steps.old ≤ steps.new }
         ensures cost { steps.new ≤ steps.old + find_steps self.now };
 
@@ -94,6 +105,7 @@ pub trait Recency: Drop {
     fn newer_than<L: Ledger>(&self, ip: Option<&Ip>, steps: &mut Steps<L>) -> Option<Row>
         requires { IfSome (option_copied ip) (λ ip. IsSome (find_row (rows self.now) ip)) }
         ensures row { result ≡ newer (rows self.now) (option_copied ip.entry) }
+        ensures read { IsSome result → steps.old < steps.new }
         ensures counted { steps.old ≤ steps.new }
         ensures cost { steps.new ≤ steps.old + newer_steps self.now };
 

@@ -1,6 +1,7 @@
-ghost use Rattle.std.specs.Prelude.{◌≡◌, ◌≤◌, ◌<◌, ◌+◌, ◌++◌, ◌∷◌, [], IfSome, drop, slice_get, vec_len, vec_capacity};
+ghost use Rattle.std.specs.Prelude.{◌≡◌, ◌≤◌, ◌<◌, ◌+◌, ◌++◌, ◌∷◌, [], min, length, IfSome, drop, slice_get, vec_len, vec_capacity};
 ghost use Rattle.std.specs.List.{remove};
 ghost use Rattle.recency.specs.Arrivals.{HasRoom, IsTouched, admitted, row_after};
+ghost use Rattle.recency.specs.Places.{place_of};
 ghost use Rattle.recency.specs.Rows.{AreRows, told_row, told_rows};
 
 use crate::arriving::{new_row, row_after};
@@ -116,8 +117,8 @@ fn arrive<L: Ledger>(
     requires room { limits.now.maxdepth ≤ vec_capacity rows.old }
     ensures touched { IsTouched limits.now rows.old.items visit.now stamp result rows.new.items }
     ensures capacity { vec_capacity rows.old ≤ vec_capacity rows.new }
-    ensures counted { steps.old ≤ steps.new }
-    ensures cost { steps.new ≤ steps.old + (vec_len rows.old + 1) }
+    ensures cost { steps.new ≡ steps.old
+        + min (place_of rows.old.items visit.now.ip + 1) (length rows.old.items) + 1 }
 {
     let place = place_of(rows, &visit.ip, steps);
     if place < rows.len() {
@@ -141,16 +142,6 @@ fn drop_front(rows: &mut Vec<Row>, count: usize)
     rows.truncate(left);
 }
 
-/// Adds a row at the end, within the room that there is.
-fn append(rows: &mut Vec<Row>, row: Row)
-    requires { vec_len rows.old < vec_capacity rows.old }
-    ensures items { rows.new.items ≡ rows.old.items ++ row ∷ [] }
-    ensures capacity { vec_capacity rows.old ≤ vec_capacity rows.new }
-{
-    let added = rows.push(row).is_ok();
-    prove!(added);
-}
-
 /// Takes the row at a place out, and adds it at the end as an arrival changes it.
 fn move_to_end(rows: &mut Vec<Row>, place: usize, visit: &Visit, stamp: u64)
     requires place { place < vec_len rows.old }
@@ -160,7 +151,7 @@ fn move_to_end(rows: &mut Vec<Row>, place: usize, visit: &Visit, stamp: u64)
     ensures capacity { vec_capacity rows.old ≤ vec_capacity rows.new }
 {
     let row = rows.remove(place);
-    append(rows, row_after(&row, visit, stamp));
+    rows.push_reserved(row_after(&row, visit, stamp));
 }
 
 /// Follows the answer to a client without a row.
@@ -171,10 +162,10 @@ fn admit(rows: &mut Vec<Row>, answer: &Touched, row: Row)
 {
     match answer {
         Touched::Known | Touched::Untracked => {}
-        Touched::Added => append(rows, row),
+        Touched::Added => rows.push_reserved(row),
         Touched::Replaced(_) => {
             rows.remove(0);
-            append(rows, row);
+            rows.push_reserved(row);
         }
     }
 }

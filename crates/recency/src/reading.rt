@@ -1,4 +1,4 @@
-ghost use Rattle.std.specs.Prelude.{◌≡◌, ◌≤◌, ◌<◌, ◌+◌, length, drop, slice_get};
+ghost use Rattle.std.specs.Prelude.{◌≡◌, ◌≤◌, ◌+◌, min, length, drop, slice_get};
 ghost use Rattle.recency.specs.Arrivals.{admission};
 ghost use Rattle.recency.specs.Places.{place_of};
 ghost use Rattle.recency.specs.Sweeps.{is_dropped, swept_rows};
@@ -23,8 +23,7 @@ pub(crate) fn row_at<L: Ledger>(rows: &[Row], place: usize, steps: &mut Steps<L>
 pub(crate) fn place_of<L: Ledger>(rows: &[Row], ip: &Ip, steps: &mut Steps<L>) -> usize
     ensures place { result ≡ place_of rows.now ip.now }
     ensures within { result ≤ length rows.now }
-    ensures counted { steps.old ≤ steps.new }
-    ensures cost { steps.new ≤ steps.old + length rows.now }
+    ensures cost { steps.new ≡ steps.old + min (result + 1) (length rows.now) }
 {
     for place in 0..rows.len() {
         let row = &rows[place];
@@ -75,8 +74,7 @@ pub(crate) fn aged<L: Ledger>(
 ) -> usize
     ensures left { drop result rows.now ≡ swept_rows limits.now rows.now moment }
     ensures within { result ≤ length rows.now }
-    ensures counted { steps.old ≤ steps.new }
-    ensures cost { steps.new ≤ steps.old + length rows.now }
+    ensures cost { steps.new ≡ steps.old + min (result + 1) (length rows.now) }
 {
     for place in 0..rows.len() {
         let row = &rows[place];

@@ -172,6 +172,7 @@ fn scores<R: Recency, L: Ledger>(rt: &impl Abort, alloc: Global, blank: Blank) -
             told,
         };
         assert_eq!(rt; found, Some(row), "at {count}");
+        assert_eq!(rt; stamped.list.newest(), found, "the newest at {count}");
         if count == 5 && found.is_some() {
             stamped.tell(&client);
         }

@@ -1,4 +1,4 @@
-ghost use Rattle.std.specs.Prelude.{◌≡◌, ℕ, ◌+◌, ◌-◌, ◌<◌, ◌≤◌, ◌++◌, ◌↔◌, [], IfSome, IsOk, is_ok, length, replicate, slice_index_or, slice_set, if◌then◌else◌};
+ghost use Rattle.std.specs.Prelude.{◌≡◌, ◌≢◌, ℕ, ◌+◌, ◌-◌, ◌<◌, ◌≤◌, ◌++◌, ◌↔◌, [], IfSome, IsOk, is_ok, length, replicate, slice_index_or, slice_set, if◌then◌else◌};
 ghost use Rattle.wheel.specs.DueTimes.{IsFirstDue, IsNoneDue, due_at, without};
 ghost use Rattle.wheel.specs.Passing.{IsFirstOf, earlier_of, is_sooner_than};
 
@@ -55,10 +55,22 @@ impl Wheel {
         self.due[key as usize] = Some(at);
     }
 
+    /// Takes a key's due time away. A key for which there is no room has none. Takes no memory.
+    pub fn clear(&mut self, key: u32)
+        ensures cleared { due_at self.new key ≡ None }
+        ensures others { (other : ℕ) → other ≢ key → due_at self.new other ≡ due_at self.old other }
+        ensures room { length self.new ≡ length self.old }
+    {
+        if let Some(due) = self.due.get_mut(key as usize) {
+            *due = None;
+        }
+    }
+
     /// Takes out the first key that is due at the moment `now`: the one of least due time, and of
     /// those the least key.
     pub fn take_due(&mut self, now: u64) -> Option<u32>
         ensures first { IfSome result (λ key. IsFirstDue self.old now key) }
+        ensures room { IfSome result (λ key. key < length self.old) }
         ensures none { (result ≡ None) ↔ IsNoneDue self.old now }
         ensures after { self.new ≡ without self.old result }
     {
@@ -119,6 +131,9 @@ mod tests {
         wheel.set(4, 10);
         wheel.set(0, u64::MAX);
         wheel.set(4, 30);
+        wheel.set(2, 0);
+        wheel.clear(2);
+        wheel.clear(5);
         let cases = [
             (19, None),
             (20, Some(1)),
