@@ -12,7 +12,7 @@ use Rattle.associations.specs.Judging.{root_distance_of}
 use Rattle.associations.specs.Samples.{held_delay, lead_by, resolution_of, round_trip_by, sample_by, waited_for}
 use Rattle.associations.specs.Accepting.{reach_after_reply}
 use Rattle.associations.specs.Systems.{in_state, leap_below, system_event, unselected, values_of}
-use Rattle.associations.specs.Taking.{moment_after}
+use Rattle.associations.specs.DueTimes.{moment_after}
 use Rattle.associations.specs.declared.association.Association.{Association}
 use Rattle.std.specs.Prelude.{int_div}
 

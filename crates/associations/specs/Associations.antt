@@ -9,12 +9,12 @@ use Rattle.associations.specs.declared.association.TheConstants.{UNREACHABLE, MA
 use Rattle.sys_vars.specs.declared.peer_views.TheConstants.{MAX_PEERS}
 
 -- the numbers of an association have the widths of its status word: the leap indicator two bits, the selection code three, events and code four; its stratum is at most that of a clock that is not synchronized
-pub record IsAssociation (p : Association) : Type 0 where
-  pub leap : p.leap ≤ 3
-  pub stratum : p.stratum ≤ 16
-  pub selection : p.selection ≤ 7
-  pub events : p.events ≤ MAX_EVENTS
-  pub code : p.code ≤ 15
+pub record IsAssociation (server : Association) : Type 0 where
+  pub leap : server.leap ≤ 3
+  pub stratum : server.stratum ≤ 16
+  pub selection : server.selection ≤ 7
+  pub events : server.events ≤ MAX_EVENTS
+  pub code : server.code ≤ 15
 
 -- the associations of at most 32 servers
 pub record ArePeers (peers : List Association) : Type 0 where
@@ -48,7 +48,7 @@ opened line = record {
 
 -- after an event: its code is the last one, and events are counted up to 15
 abbrev pub with_event : ℕ → Association → Association
-with_event code p = record p { events = min (p.events + 1) MAX_EVENTS; code = code }
+with_event code server = record server { events = min (server.events + 1) MAX_EVENTS; code = code }
 
 -- the reach register is shifted left by one bit of its eight
 abbrev pub reach_after_request : ℕ → ℕ
@@ -60,8 +60,8 @@ runs_empty reach = not (reach == 0) && (reach_after_request reach == 0)
 
 -- a request went out with this transmit timestamp, for which a reply is awaited
 abbrev pub awaiting : Association → Ntp64 → Association
-awaiting p transmit = record p { pending = Some transmit; reach = reach_after_request p.reach }
+awaiting server transmit = record server { pending = Some transmit; reach = reach_after_request server.reach }
 
 -- and where the reach register ran empty by it, the server is no longer reachable
 abbrev pub asked : Association → Ntp64 → Association
-asked p transmit = if runs_empty p.reach then with_event UNREACHABLE (awaiting p transmit) else awaiting p transmit
+asked server transmit = if runs_empty server.reach then with_event UNREACHABLE (awaiting server transmit) else awaiting server transmit

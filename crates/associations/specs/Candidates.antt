@@ -11,26 +11,26 @@ use Rattle.associations.specs.declared.candidates.TheConstants.{MAX_DISTANCE}
 
 -- the root distance at a moment: half the round trip to the primary source, and all dispersion and jitter on the way
 abbrev pub distance_of : Association → Estimate → ℕ → ℕ
-distance_of p e moment = (p.root_delay + e.delay) / 2 + p.root_disp + e.disp + drift_of (moment - e.at) PHI + e.jitter
+distance_of server estimate moment = (server.root_delay + estimate.delay) / 2 + server.root_disp + estimate.disp + drift_of (moment - estimate.at) PHI + estimate.jitter
 
 -- a server of this number and root distance as a candidate, where that is under the threshold
 abbrev pub near_candidate : ℕ → Association → Estimate → ℕ → Option Candidate
-near_candidate peer p e distance =
+near_candidate peer server estimate distance =
     if nat_lt distance MAX_DISTANCE
-    then Some (record { peer = peer; stratum = p.stratum; offset = e.offset; distance = distance; jitter = e.jitter })
+    then Some (record { peer = peer; stratum = server.stratum; offset = estimate.offset; distance = distance; jitter = estimate.jitter })
     else None
 
 -- and where one of its last eight requests was answered
 abbrev pub reached_candidate : ℕ → Association → Estimate → ℕ → Option Candidate
-reached_candidate peer p e moment = if p.reach == 0 then None else near_candidate peer p e (distance_of p e moment)
+reached_candidate peer server estimate moment = if server.reach == 0 then None else near_candidate peer server estimate (distance_of server estimate moment)
 
 -- and where it has an estimate
 abbrev pub candidate_by : Option Estimate → ℕ → ℕ → Association → Option Candidate
-candidate_by None moment peer p = None
-candidate_by (Some e) moment peer p = reached_candidate peer p e moment
+candidate_by None moment peer server = None
+candidate_by (Some estimate) moment peer server = reached_candidate peer server estimate moment
 
 abbrev pub candidate_of : ℕ → ℕ → Association → Option Candidate
-candidate_of moment peer p = candidate_by p.estimate moment peer p
+candidate_of moment peer server = candidate_by server.estimate moment peer server
 
 -- the servers with their association numbers, which count from 1
 abbrev pub numbered : List Association → List (ℕ × Association)
@@ -42,4 +42,4 @@ candidates_of moment peers = filter_map (λ (np : ℕ × Association). candidate
 
 -- its root distance, by the estimate that it shows, is under the threshold
 abbrev pub IsNear : ℕ → Association → Type 0
-IsNear moment p = distance_of p (estimate_shown p.estimate) moment < MAX_DISTANCE
+IsNear moment server = distance_of server (estimate_shown server.estimate) moment < MAX_DISTANCE

@@ -34,28 +34,28 @@ combined_of survivors = record {
 
 -- the server of this number is one of them
 abbrev pub is_among : ℕ → List Candidate → Bool
-is_among peer survivors = list_any (λ s. s.peer == peer) survivors
+is_among peer survivors = list_any (λ survivor. survivor.peer == peer) survivors
 
 -- the selection code of a candidate within a majority: outside the interval it is a falseticker; inside, clustering takes it out or leaves it, and the first that is left is the system peer
 abbrev pub code_within : Interval → List Candidate → Candidate → ℕ
-code_within interval survivors c =
-    if not (inside interval.lo interval.hi c) then FALSETICKER
-    else (if not (is_among c.peer survivors) then OUTLIER
-    else (if system_peer survivors == c.peer then SYSTEM_PEER else SURVIVOR))
+code_within interval survivors candidate =
+    if not (inside interval.lo interval.hi candidate) then FALSETICKER
+    else (if not (is_among candidate.peer survivors) then OUTLIER
+    else (if system_peer survivors == candidate.peer then SYSTEM_PEER else SURVIVOR))
 
 -- the selection code of a candidate: without a majority each is a falseticker
 abbrev pub code_of : Choice → Candidate → ℕ
-code_of NoMajority c = FALSETICKER
-code_of (Majority interval survivors) c = code_within interval survivors c
+code_of NoMajority candidate = FALSETICKER
+code_of (Majority interval survivors) candidate = code_within interval survivors candidate
 
 -- the selection code of a server that may be a candidate
 abbrev pub code_by : Choice → Option Candidate → ℕ
 code_by choice None = REJECTED
-code_by choice (Some c) = code_of choice c
+code_by choice (Some candidate) = code_of choice candidate
 
 -- a server with its selection code
 abbrev pub marked_one : Choice → ℕ → ℕ → Association → Association
-marked_one choice moment peer p = record p { selection = code_by choice (candidate_of moment peer p) }
+marked_one choice moment peer server = record server { selection = code_by choice (candidate_of moment peer server) }
 
 -- the servers with their selection codes
 abbrev pub marked : Choice → ℕ → List Association → List Association

@@ -1,5 +1,5 @@
 -- Which replies are refused, and why (RFC 5905, sections 7.4, 8 and 9.2; the order of the tests, and what a refusal leaves, are our own rules).
-use Rattle.std.specs.Prelude.{ℕ, ◌≢◌, ◌≤◌, ◌+◌, ◌*◌, ◌/◌, ◌^◌, ◌==◌, ◌&&◌, ◌||◌, nat_le, nat_lt, Bool, false, true, not, if◌then◌else◌, Option, None, Some}
+use Rattle.std.specs.Prelude.{ℕ, ◌≢◌, ◌≤◌, ◌<◌, ◌+◌, ◌*◌, ◌/◌, ◌^◌, ◌==◌, ◌&&◌, ◌||◌, nat_le, nat_lt, Bool, false, true, not, if◌then◌else◌, Option, None, Some}
 use Rattle.fixed_time.specs.declared.time.Ntp64.{Ntp64}
 use Rattle.fixed_time.specs.declared.time.Short.{Short}
 use Rattle.fixed_time.specs.declared.time.TheConstants.{MAX_DISPERSION}
@@ -13,7 +13,7 @@ use Rattle.associations.specs.declared.judging.TheConstants.{LEAP_UNKNOWN, MAX_S
 
 -- its transmit timestamp is the last one that was taken, other than 0
 abbrev pub is_duplicate : Association → Reply → Bool
-is_duplicate p reply = not (reply.header.transmit.0 == 0) && (reply.header.transmit.0 == p.transmit.0)
+is_duplicate server reply = not (reply.header.transmit.0 == 0) && (reply.header.transmit.0 == server.transmit.0)
 
 -- a request waits for a reply, and this is its transmit timestamp
 abbrev pub is_awaited : Option Ntp64 → Ntp64 → Bool
@@ -22,7 +22,7 @@ is_awaited (Some transmit) origin = origin.0 == transmit.0
 
 -- its origin timestamp is not that of a request that waits
 abbrev pub is_bogus : Association → Reply → Bool
-is_bogus p reply = not (is_awaited p.pending reply.header.origin)
+is_bogus server reply = not (is_awaited server.pending reply.header.origin)
 
 -- a MAC is good with the key of this id
 abbrev pub is_by_key : Auth → ℕ → Bool
@@ -32,7 +32,7 @@ is_by_key Bad id = false
 
 -- the line names a key, and the MAC is not good with it
 abbrev pub is_unproven : Association → Reply → Bool
-is_unproven p reply = not (p.line.key == 0) && not (is_by_key reply.auth p.line.key)
+is_unproven server reply = not (server.line.key == 0) && not (is_by_key reply.auth server.line.key)
 
 -- stratum 0 says that the reference identifier is a kiss code
 abbrev pub is_kiss : Reply → Bool
@@ -52,18 +52,18 @@ is_too_far reply = nat_le MAX_DISPERSION (root_distance_of reply.header.root_del
 
 -- the first fault of a reply, in this order
 abbrev pub first_fault_of : Association → Reply → Option ReplyFault
-first_fault_of p reply =
-    if is_duplicate p reply then Some Duplicate
-    else (if is_bogus p reply then Some Bogus
-    else (if is_unproven p reply then Some BadAuth
+first_fault_of server reply =
+    if is_duplicate server reply then Some Duplicate
+    else (if is_bogus server reply then Some Bogus
+    else (if is_unproven server reply then Some BadAuth
     else (if is_kiss reply then Some (Kiss reply.header.refid)
     else (if is_unsynchronised reply then Some Unsynchronised
     else (if is_too_far reply then Some TooFar
     else None)))))
 
--- the leap indicator and the stratum of a server that tells the time
-pub record IsTellable (reply : Reply) : Type 0 where
-  pub leap : reply.header.leap ≤ 3
+-- the leap indicator and the stratum of a server whose clock is synchronized
+pub record IsSynchronized (reply : Reply) : Type 0 where
+  pub leap : reply.header.leap < LEAP_UNKNOWN
   pub stratum : reply.header.stratum ≤ MAX_SYNCHRONISED
 
 -- a fault that the association decides: the first two come before it is looked at
@@ -83,4 +83,4 @@ ends_waiting TooFar = true
 
 -- what a refusal leaves: nothing else changes
 abbrev pub refused : ReplyFault → Association → Association
-refused fault p = if ends_waiting fault then record p { pending = None } else p
+refused fault server = if ends_waiting fault then record server { pending = None } else server

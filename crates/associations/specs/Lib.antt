@@ -5,6 +5,7 @@ pub mod Judging
 pub mod Samples
 pub mod Accepting
 pub mod Taking
+pub mod DueTimes
 pub mod Showing
 pub mod Candidates
 pub mod Choices

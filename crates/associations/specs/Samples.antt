@@ -10,11 +10,11 @@ use Rattle.associations.specs.declared.sampling.TheConstants.{RESOLUTION, MAX_DE
 
 -- how far the server's clock is ahead, summed over both ways
 abbrev pub lead_by : Header → Ntp64 → ℤ
-lead_by h destination = diff_of h.receive.0 h.origin.0 +ℤ diff_of h.transmit.0 destination.0
+lead_by header destination = diff_of header.receive.0 header.origin.0 +ℤ diff_of header.transmit.0 destination.0
 
 -- the round trip without the time that the reply took inside the server
 abbrev pub round_trip_by : Header → Ntp64 → ℤ
-round_trip_by h destination = diff_of destination.0 h.origin.0 -ℤ diff_of h.transmit.0 h.receive.0
+round_trip_by header destination = diff_of destination.0 header.origin.0 -ℤ diff_of header.transmit.0 header.receive.0
 
 -- a delay is held between the least and the longest
 abbrev pub held_delay : ℤ → ℕ
@@ -27,17 +27,17 @@ resolution_of (negsuc n) = 2 ^ (31 - n)
 
 -- for how long the reply was waited for, by our clock: no time where it was set back
 abbrev pub waited_for : Header → Ntp64 → ℕ
-waited_for h destination = unsigned_abs (int_max (pos 0) (diff_of destination.0 h.origin.0))
+waited_for header destination = unsigned_abs (int_max (pos 0) (diff_of destination.0 header.origin.0))
 
 -- both precisions, and how far our clock may have drifted meanwhile
 abbrev pub dispersion_by : Header → Ntp64 → ℕ
-dispersion_by h destination = resolution_of h.precision + RESOLUTION + drift_of (waited_for h destination) PHI
+dispersion_by header destination = resolution_of header.precision + RESOLUTION + drift_of (waited_for header destination) PHI
 
 -- the sample of a reply that came at this moment: its offset is half the lead, toward zero
 unfoldable pub sample_by : Header → Ntp64 → ℕ → Sample
-sample_by h destination moment = record {
-  offset = record { 0 = int_div (lead_by h destination) (pos 2) };
-  delay = held_delay (round_trip_by h destination);
-  disp = dispersion_by h destination;
+sample_by header destination moment = record {
+  offset = record { 0 = int_div (lead_by header destination) (pos 2) };
+  delay = held_delay (round_trip_by header destination);
+  disp = dispersion_by header destination;
   at = moment;
 }

@@ -9,36 +9,36 @@ use Rattle.associations.specs.declared.association.Association.{Association}
 -- the estimate that a server shows: without one offset, delay and jitter are 0, and the dispersion is 16 seconds
 abbrev pub estimate_shown : Option Estimate → Estimate
 estimate_shown None = record { offset = record { 0 = pos 0 }; delay = 0; disp = MAX_DISPERSION; jitter = 0; at = 0 }
-estimate_shown (Some e) = e
+estimate_shown (Some estimate) = estimate
 
 -- the view of the server of this number: each value as it is kept
-pub record IsViewOf (peer : ℕ) (p : Association) (v : PeerView) : Type 0 where
-  pub assoc : v.assoc ≡ peer
-  pub addr : v.addr ≡ p.line.addr
-  pub key : v.key ≡ p.line.key
-  pub hpoll : v.hpoll ≡ p.line.poll
-  pub ppoll : v.ppoll ≡ p.ppoll
-  pub pmode : v.pmode ≡ p.pmode
-  pub leap : v.leap ≡ p.leap
-  pub stratum : v.stratum ≡ p.stratum
-  pub precision : v.precision ≡ p.precision
-  pub root_delay : v.root_delay ≡ p.root_delay
-  pub root_disp : v.root_disp ≡ p.root_disp
-  pub refid : v.refid ≡ p.refid
-  pub reference : v.reference ≡ p.reference
-  pub received : v.received ≡ p.received
-  pub reach : v.reach ≡ p.reach
-  pub offset : v.offset ≡ (estimate_shown p.estimate).offset
-  pub delay : v.delay ≡ (estimate_shown p.estimate).delay
-  pub disp : v.disp ≡ (estimate_shown p.estimate).disp
-  pub jitter : v.jitter ≡ (estimate_shown p.estimate).jitter
-  pub stages : v.stages ≡ stages_of p.filter.samples
-  pub auth_ok : v.auth_ok ≡ p.auth_ok
-  pub selection : v.selection ≡ p.selection
-  pub events : v.events ≡ p.events
-  pub code : v.code ≡ p.code
+pub record IsViewOf (peer : ℕ) (server : Association) (view : PeerView) : Type 0 where
+  pub assoc : view.assoc ≡ peer
+  pub addr : view.addr ≡ server.line.addr
+  pub key : view.key ≡ server.line.key
+  pub hpoll : view.hpoll ≡ server.line.poll
+  pub ppoll : view.ppoll ≡ server.ppoll
+  pub pmode : view.pmode ≡ server.pmode
+  pub leap : view.leap ≡ server.leap
+  pub stratum : view.stratum ≡ server.stratum
+  pub precision : view.precision ≡ server.precision
+  pub root_delay : view.root_delay ≡ server.root_delay
+  pub root_disp : view.root_disp ≡ server.root_disp
+  pub refid : view.refid ≡ server.refid
+  pub reference : view.reference ≡ server.reference
+  pub received : view.received ≡ server.received
+  pub reach : view.reach ≡ server.reach
+  pub offset : view.offset ≡ (estimate_shown server.estimate).offset
+  pub delay : view.delay ≡ (estimate_shown server.estimate).delay
+  pub disp : view.disp ≡ (estimate_shown server.estimate).disp
+  pub jitter : view.jitter ≡ (estimate_shown server.estimate).jitter
+  pub stages : view.stages ≡ stages_of server.filter.samples
+  pub auth_ok : view.auth_ok ≡ server.auth_ok
+  pub selection : view.selection ≡ server.selection
+  pub events : view.events ≡ server.events
+  pub code : view.code ≡ server.code
 
 -- the views of the servers, one each, in the order of their numbers, which count from 1
 pub record AreViews (peers : List Association) (views : List PeerView) : Type 0 where
   pub as_many : length views ≡ length peers
-  pub each : (k : ℕ) (p : Association) (v : PeerView) → k < length peers → IsViewOf (k + 1) (slice_index_or peers k p) (slice_index_or views k v)
+  pub each : (k : ℕ) (server : Association) (view : PeerView) → k < length peers → IsViewOf (k + 1) (slice_index_or peers k server) (slice_index_or views k view)

@@ -42,24 +42,24 @@ pub record SystemValues : Type 0 where
   pub code : ℕ
 
 abbrev pub values_of : System → SystemValues
-values_of s = record {
-  leap = s.leap;
-  stratum = s.stratum;
-  precision = s.precision;
-  root_delay = s.root_delay;
-  root_disp = s.root_disp;
-  refid = s.refid;
-  reference = s.reference;
-  at = s.at;
-  peer = s.peer;
-  poll = s.poll;
-  offset = s.offset;
-  freq = s.freq;
-  jitter = s.jitter;
-  state = s.state;
-  source = s.source;
-  events = s.events;
-  code = s.code;
+values_of system = record {
+  leap = system.leap;
+  stratum = system.stratum;
+  precision = system.precision;
+  root_delay = system.root_delay;
+  root_disp = system.root_disp;
+  refid = system.refid;
+  reference = system.reference;
+  at = system.at;
+  peer = system.peer;
+  poll = system.poll;
+  offset = system.offset;
+  freq = system.freq;
+  jitter = system.jitter;
+  state = system.state;
+  source = system.source;
+  events = system.events;
+  code = system.code;
 }
 
 -- after an event: its code is the last one, and events are counted up to 15
@@ -85,7 +85,7 @@ unselected old = system_event NO_SYSTEM_PEER (record old { peer = 0 })
 
 -- the leap indicator that comes from a server: below one of stratum 15 no clock is synchronized
 abbrev pub leap_below : Association → ℕ
-leap_below p = if p.stratum == MAX_SYNCHRONISED then LEAP_UNKNOWN else p.leap
+leap_below server = if server.stratum == MAX_SYNCHRONISED then LEAP_UNKNOWN else server.leap
 
 -- the reference identifier of a server: its IPv4 address, or the first four octets of the MD5 digest of its IPv6 address (RFC 5905, section 7.3)
 abbrev pub refid_of : Ip → List ℕ
@@ -94,16 +94,16 @@ refid_of (V6 octets) = take 4 (md5 octets)
 
 -- the values that come from the system peer and from what the survivors combine to, by the clock at a moment
 abbrev pub adjusted : Association → Combined → SoftClock → ℕ → SystemValues → SystemValues
-adjusted p combined clock moment old = record old {
-  leap = leap_below p;
-  stratum = p.stratum + 1;
-  root_delay = p.root_delay + (estimate_shown p.estimate).delay;
-  root_disp = p.root_disp + (estimate_shown p.estimate).disp + unsigned_abs combined.offset.0 + combined.jitter;
-  refid = refid_of p.line.addr.ip;
+adjusted server combined clock moment old = record old {
+  leap = leap_below server;
+  stratum = server.stratum + 1;
+  root_delay = server.root_delay + (estimate_shown server.estimate).delay;
+  root_disp = server.root_disp + (estimate_shown server.estimate).disp + unsigned_abs combined.offset.0 + combined.jitter;
+  refid = refid_of server.line.addr.ip;
   reference = time_at clock moment;
   at = moment;
   peer = combined.system;
-  poll = p.line.poll;
+  poll = server.line.poll;
   offset = combined.offset;
   freq = clock.freq;
   jitter = combined.jitter;
@@ -126,8 +126,8 @@ stepped clock moment old = record old {
 
 -- the values after what the discipline did with the combined offset, by the loop as it is then
 abbrev pub after_change : Change → Association → Combined → LoopState → ℕ → SystemValues → SystemValues
-after_change Panic p combined engine moment old = system_event PANIC_STOP old
-after_change Ignored p combined engine moment old = in_state engine.state old
-after_change Adjusted p combined engine moment old =
-    in_state engine.state (adjusted p combined engine.clock moment old)
-after_change Stepped p combined engine moment old = in_state engine.state (stepped engine.clock moment old)
+after_change Panic server combined engine moment old = system_event PANIC_STOP old
+after_change Ignored server combined engine moment old = in_state engine.state old
+after_change Adjusted server combined engine moment old =
+    in_state engine.state (adjusted server combined engine.clock moment old)
+after_change Stepped server combined engine moment old = in_state engine.state (stepped engine.clock moment old)

@@ -1,5 +1,5 @@
 -- The peers by their numbers and addresses, and what a datagram makes of them (RFC 5905, sections 8 and 9.2; that the first line of an address counts is our own rule).
-use Rattle.std.specs.Prelude.{ℕ, ◌+◌, ◌-◌, ◌*◌, ◌^◌, ◌≤◌, ◌==◌, ◌&&◌, Bool, if◌then◌else◌, nat_lt, List, length, Option, None, Some, Result, Ok, Err, unwrap_or, slice_get, slice_set}
+use Rattle.std.specs.Prelude.{ℕ, ◌+◌, ◌-◌, ◌≤◌, ◌==◌, ◌&&◌, Bool, if◌then◌else◌, nat_lt, List, length, Option, None, Some, Result, Ok, Err, unwrap_or, slice_get, slice_set}
 use Rattle.std.specs.List.{position}
 use Rattle.discipline.specs.SoftClock.{clock_time}
 use Rattle.discipline.specs.declared.soft_clock.SoftClock.{SoftClock}
@@ -19,11 +19,6 @@ use Rattle.associations.specs.declared.reading.Reply.{Reply}
 abbrev pub time_at : SoftClock → ℕ → Ntp64
 time_at clock moment = record { 0 = clock_time clock moment }
 
--- the moment that is so many seconds after another, if there is one
-abbrev pub moment_after : ℕ → ℕ → Option ℕ
-moment_after seconds moment =
-    if nat_lt (moment + seconds * 2 ^ 32) (2 ^ 64) then Some (moment + seconds * 2 ^ 32) else None
-
 -- there is a peer of this association number: they count from 1
 abbrev pub HasPeer : List Association → ℕ → Type 0
 HasPeer peers peer = (1 ≤ peer) × (peer ≤ length peers)
@@ -38,7 +33,7 @@ same_addr one other = same_ip one.ip other.ip && (one.port == other.port)
 
 -- the place of the first peer whose line has this address and port, or the end
 abbrev pub place_for : List Association → Addr → ℕ
-place_for peers from = unwrap_or (position (λ p. same_addr p.line.addr from) peers) (length peers)
+place_for peers from = unwrap_or (position (λ server. same_addr server.line.addr from) peers) (length peers)
 
 -- the association number of that peer, if there is one
 abbrev pub line_for : List Association → Addr → Option ℕ
@@ -56,8 +51,8 @@ answer_by peer (Err fault) = Err fault
 -- the answer to a datagram for the peer of this number, which is this reply, or none
 abbrev pub answer_from : ℕ → Option Association → Option Reply → Ntp64 → ℕ → Result TakenReply ReplyFault
 answer_from peer None reading destination moment = Err NoSuchPeer
-answer_from peer (Some p) None destination moment = Err Malformed
-answer_from peer (Some p) (Some reply) destination moment = answer_by peer (verdict_of p reply destination moment)
+answer_from peer (Some server) None destination moment = Err Malformed
+answer_from peer (Some server) (Some reply) destination moment = answer_by peer (verdict_of server reply destination moment)
 
 -- the answer to a datagram from this address
 abbrev pub answer_to : List Association → Addr → Option Reply → Ntp64 → ℕ → Result TakenReply ReplyFault
@@ -67,8 +62,8 @@ answer_to peers from reading destination moment =
 -- the peers after a datagram for the one at this place: that one is judged, and the others stay
 abbrev pub after_from : List Association → ℕ → Option Association → Option Reply → Ntp64 → ℕ → List Association
 after_from peers place None reading destination moment = peers
-after_from peers place (Some p) None destination moment = peers
-after_from peers place (Some p) (Some reply) destination moment = slice_set peers place (judged p reply destination moment)
+after_from peers place (Some server) None destination moment = peers
+after_from peers place (Some server) (Some reply) destination moment = slice_set peers place (judged server reply destination moment)
 
 -- the peers after a datagram from this address
 abbrev pub peers_after : List Association → Addr → Option Reply → Ntp64 → ℕ → List Association

@@ -1,7 +1,7 @@
 ghost use Rattle.std.specs.Prelude.{◌≡◌, ◌≤◌, IfErr, false};
 ghost use Rattle.associations.specs.Associations.{IsAssociation};
-ghost use Rattle.associations.specs.Judging.{IsDecided, IsTellable, ends_waiting};
-ghost use Rattle.associations.specs.Accepting.{accepted, gives_estimate, is_fresh, is_good, judged, reach_after_reply, sampled, taken_over, told, verdict_of};
+ghost use Rattle.associations.specs.Judging.{IsDecided, IsSynchronized, ends_waiting};
+ghost use Rattle.associations.specs.Accepting.{accepted, gives_estimate, is_fresh, is_good, judged, reach_after_reply, sampled, taken_over, with_header, verdict_of};
 
 use crate::association::{Association, REACHABLE, note_event};
 use crate::judging::{ReplyFault, first_fault, refuse};
@@ -21,10 +21,10 @@ fn is_good(auth: Auth) -> bool
     }
 }
 
-/// Takes the header's fields over.
+/// Takes the fields of a reply's header over.
 fn take_header(of: &mut Association, reply: &Reply)
-    ensures value { of.new ≡ told of.old reply.now }
-    ensures sound { IsTellable reply.now → IsAssociation of.old → IsAssociation of.new }
+    ensures value { of.new ≡ with_header of.old reply.now }
+    ensures sound { IsSynchronized reply.now → IsAssociation of.old → IsAssociation of.new }
 {
     let header = &reply.header;
     of.pmode = header.mode;
@@ -50,7 +50,7 @@ fn mark(reach: u8) -> u8
 /// Keeps that a reply came when our clock showed the destination timestamp.
 fn take_over(of: &mut Association, reply: &Reply, destination: Ntp64)
     ensures value { of.new ≡ taken_over of.old reply.now destination }
-    ensures sound { IsTellable reply.now → IsAssociation of.old → IsAssociation of.new }
+    ensures sound { IsSynchronized reply.now → IsAssociation of.old → IsAssociation of.new }
 {
     let is_new = of.reach == 0;
     take_header(of, reply);
@@ -77,7 +77,7 @@ fn put_sample(of: &mut Association, sample: Sample, moment: u64) -> bool
 fn accept(of: &mut Association, reply: &Reply, destination: Ntp64, moment: u64) -> bool
     ensures after { of.new ≡ accepted of.old reply.now destination moment }
     ensures fresh { result ≡ is_fresh of.old reply.now destination moment }
-    ensures sound { IsTellable reply.now → IsAssociation of.old → IsAssociation of.new }
+    ensures sound { IsSynchronized reply.now → IsAssociation of.old → IsAssociation of.new }
 {
     let sample = measure(&reply.header, destination, moment);
     take_over(of, reply, destination);

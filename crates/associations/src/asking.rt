@@ -1,4 +1,4 @@
-ghost use Rattle.std.specs.Prelude.{◌≡◌, ◌≤◌, ◌++◌, List, ℕ};
+ghost use Rattle.std.specs.Prelude.{◌≡◌, ◌≤◌, ◌++◌, List, ℕ, length};
 ghost use Rattle.std.specs.Option.{option_copied};
 ghost use Rattle.ntp_packet.specs.Packet.{IsPacket, IsPacketMode, IsPacketVersion, spelled_header};
 ghost use Rattle.associations.specs.Requests.{key_by, request_header, request_of};
@@ -19,12 +19,16 @@ pub const VERSION: u8 = 4;
 /// The precision of our clock, in log2 seconds: about a microsecond (our own rule).
 pub const PRECISION: i8 = -20;
 
+/// The most octets of a request: its header, and a MAC of a key id and 20 octets of digest.
+pub const MAX_REQUEST_LEN: usize = 72;
+
 /// The request to a server that leaves at the time `transmit`. A MAC ends it where the line names a
 /// key that is there.
 #[tactic(auto, unfolding(crate::specs::Requests::request_of))]
 pub(crate) fn make_request(line: ServerLine, keys: &KeyTable, transmit: Ntp64) -> Octets
     ensures value { result ≡ request_of line keys.now transmit }
     ensures packet { IsPacket result (request_header line transmit) }
+    ensures short { length result ≤ MAX_REQUEST_LEN }
 {
     let mut request = Octets::new();
     request.put(&header_octets(line, transmit));

@@ -17,36 +17,41 @@ pub const MAX_DISTANCE: u64 = 3 << 31;
 pub(crate) type CandidateList = ArrayVec<Candidate, MAX_CANDIDATES>;
 
 /// Half a round trip, and what else adds to a root distance: five times of 64 bits fit 128.
-fn add_up(root_delay: u64, root_disp: u64, e: Estimate, grown: u64) -> u128
-    ensures { result ≡ (root_delay + e.delay) / 2 + root_disp + e.disp + grown + e.jitter }
+fn add_up(root_delay: u64, root_disp: u64, estimate: Estimate, grown: u64) -> u128
+    ensures { result ≡ (root_delay + estimate.delay) / 2 + root_disp + estimate.disp + grown + estimate.jitter }
 {
-    let round_trip = u128::from(root_delay) + u128::from(e.delay);
+    let round_trip = u128::from(root_delay) + u128::from(estimate.delay);
     round_trip / 2
         + u128::from(root_disp)
-        + u128::from(e.disp)
+        + u128::from(estimate.disp)
         + u128::from(grown)
-        + u128::from(e.jitter)
+        + u128::from(estimate.jitter)
 }
 
 /// The root distance of a server at a moment, by this estimate (RFC 5905, section 11.2.1).
-fn find_distance(p: &Association, e: Estimate, moment: u64) -> u128
-    ensures { result ≡ distance_of p.now e moment }
+fn find_distance(server: &Association, estimate: Estimate, moment: u64) -> u128
+    ensures { result ≡ distance_of server.now estimate moment }
 {
-    let grown = drift(moment.saturating_sub(e.at), PHI);
-    add_up(p.root_delay, p.root_disp, e, grown)
+    let grown = drift(moment.saturating_sub(estimate.at), PHI);
+    add_up(server.root_delay, server.root_disp, estimate, grown)
 }
 
 /// The candidate of this root distance, where that is near enough.
-fn take_near(p: &Association, peer: u16, e: Estimate, distance: u128) -> Option<Candidate>
-    ensures { result ≡ near_candidate peer p.now e distance }
+fn near_candidate(
+    server: &Association,
+    peer: u16,
+    estimate: Estimate,
+    distance: u128,
+) -> Option<Candidate>
+    ensures { result ≡ near_candidate peer server.now estimate distance }
 {
     if distance < u128::from(MAX_DISTANCE) {
         Some(Candidate {
             peer,
-            stratum: p.stratum,
-            offset: e.offset,
+            stratum: server.stratum,
+            offset: estimate.offset,
             distance: distance as u64,
-            jitter: e.jitter,
+            jitter: estimate.jitter,
         })
     } else {
         None
@@ -54,23 +59,33 @@ fn take_near(p: &Association, peer: u16, e: Estimate, distance: u128) -> Option<
 }
 
 /// The candidate of a server that has this estimate, where it was reached.
-fn take_reached(p: &Association, peer: u16, e: Estimate, moment: u64) -> Option<Candidate>
-    ensures { result ≡ reached_candidate peer p.now e moment }
+fn reached_candidate(
+    server: &Association,
+    peer: u16,
+    estimate: Estimate,
+    moment: u64,
+) -> Option<Candidate>
+    ensures { result ≡ reached_candidate peer server.now estimate moment }
 {
-    if p.reach == 0 {
+    if server.reach == 0 {
         None
     } else {
-        take_near(p, peer, e, find_distance(p, e, moment))
+        near_candidate(
+            server,
+            peer,
+            estimate,
+            find_distance(server, estimate, moment),
+        )
     }
 }
 
 /// The server of this association number as a candidate, if it is one.
-pub(crate) fn take_candidate(p: &Association, peer: u16, moment: u64) -> Option<Candidate>
-    ensures { result ≡ candidate_of moment peer p.now }
+pub(crate) fn candidate_of(server: &Association, peer: u16, moment: u64) -> Option<Candidate>
+    ensures { result ≡ candidate_of moment peer server.now }
 {
-    match p.estimate {
+    match server.estimate {
         None => None,
-        Some(e) => take_reached(p, peer, e, moment),
+        Some(estimate) => reached_candidate(server, peer, estimate, moment),
     }
 }
 
@@ -83,7 +98,7 @@ pub(crate) fn gather(list: &[Association], moment: u64) -> CandidateList
     for place in 0..list.len() {
         keep(
             &mut candidates,
-            take_candidate(&list[place], place as u16 + 1, moment),
+            candidate_of(&list[place], place as u16 + 1, moment),
         );
     }
     candidates

@@ -5,7 +5,7 @@ ghost use Rattle.associations.specs.Choices.{HasMajority, IsChoice, code_by, cod
 ghost use Rattle.select_cluster.specs.Combining.{system_peer};
 
 use crate::association::Association;
-use crate::candidates::take_candidate;
+use crate::candidates::candidate_of;
 use crate::peers::MAX_PEERS;
 use select_cluster::{Candidate, Interval, MAX_CANDIDATES, Survivors, cluster, is_inside, select};
 
@@ -57,7 +57,10 @@ pub(crate) fn choose(candidates: &[Candidate]) -> Choice
 fn is_among(peer: u16, survivors: &Survivors) -> bool
     ensures { result ≡ is_among peer survivors.now }
 {
-    survivors.as_slice().iter().any(|s| s.peer == peer)
+    survivors
+        .as_slice()
+        .iter()
+        .any(|survivor| survivor.peer == peer)
 }
 
 /// The number of the first survivor, or 0.
@@ -71,15 +74,15 @@ fn find_system_peer(survivors: &Survivors) -> u16
 }
 
 /// The selection code of a candidate within a majority.
-fn code_within(interval: Interval, survivors: &Survivors, c: Candidate) -> u8
-    ensures value { result ≡ code_within interval survivors.now c }
+fn code_within(interval: Interval, survivors: &Survivors, candidate: Candidate) -> u8
+    ensures value { result ≡ code_within interval survivors.now candidate }
     ensures within { result ≤ 7 }
 {
-    if !is_inside(c, interval) {
+    if !is_inside(candidate, interval) {
         FALSETICKER
-    } else if !is_among(c.peer, survivors) {
+    } else if !is_among(candidate.peer, survivors) {
         OUTLIER
-    } else if find_system_peer(survivors) == c.peer {
+    } else if find_system_peer(survivors) == candidate.peer {
         SYSTEM_PEER
     } else {
         SURVIVOR
@@ -87,8 +90,8 @@ fn code_within(interval: Interval, survivors: &Survivors, c: Candidate) -> u8
 }
 
 /// The selection code of a candidate.
-fn code_of(choice: &Choice, c: Candidate) -> u8
-    ensures value { result ≡ code_of choice.now c }
+fn code_of(choice: &Choice, candidate: Candidate) -> u8
+    ensures value { result ≡ code_of choice.now candidate }
     ensures within { result ≤ 7 }
 {
     match choice {
@@ -96,7 +99,7 @@ fn code_of(choice: &Choice, c: Candidate) -> u8
         Choice::Majority {
             interval,
             survivors,
-        } => code_within(*interval, survivors, c),
+        } => code_within(*interval, survivors, candidate),
     }
 }
 
@@ -107,16 +110,16 @@ fn code_by(choice: &Choice, candidate: Option<Candidate>) -> u8
 {
     match candidate {
         None => REJECTED,
-        Some(c) => code_of(choice, c),
+        Some(candidate) => code_of(choice, candidate),
     }
 }
 
 /// Keeps the selection code of the server of this number.
-fn mark_one(p: &mut Association, peer: u16, choice: &Choice, moment: u64)
-    ensures value { p.new ≡ marked_one choice.now moment peer p.old }
-    ensures sound { IsAssociation p.old → IsAssociation p.new }
+fn mark_one(server: &mut Association, peer: u16, choice: &Choice, moment: u64)
+    ensures value { server.new ≡ marked_one choice.now moment peer server.old }
+    ensures sound { IsAssociation server.old → IsAssociation server.new }
 {
-    p.selection = code_by(choice, take_candidate(p, peer, moment));
+    server.selection = code_by(choice, candidate_of(server, peer, moment));
 }
 
 /// Keeps the selection code of each server.

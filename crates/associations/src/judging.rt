@@ -1,6 +1,6 @@
 ghost use Rattle.std.specs.Prelude.{◌≡◌, ◌≤◌, IfNone, IfSome, false};
 ghost use Rattle.associations.specs.Associations.{IsAssociation};
-ghost use Rattle.associations.specs.Judging.{IsDecided, IsTellable, ends_waiting, first_fault_of, is_awaited, is_bogus, is_by_key, is_duplicate, is_kiss, is_too_far, is_unproven, is_unsynchronised, refused, root_distance_of};
+ghost use Rattle.associations.specs.Judging.{IsDecided, IsSynchronized, ends_waiting, first_fault_of, is_awaited, is_bogus, is_by_key, is_duplicate, is_kiss, is_too_far, is_unproven, is_unsynchronised, refused, root_distance_of};
 
 use crate::association::Association;
 use crate::reading::Reply;
@@ -107,7 +107,7 @@ fn is_too_far(reply: &Reply) -> bool
 pub(crate) fn first_fault(of: &Association, reply: &Reply) -> Option<ReplyFault>
     ensures value { result ≡ first_fault_of of.now reply.now }
     ensures decided { IfSome result IsDecided }
-    ensures tellable { IfNone result (reply.now.header.leap ≤ 3 → IsTellable reply.now) }
+    ensures synchronized { IfNone result (reply.now.header.leap ≤ 3 → IsSynchronized reply.now) }
 {
     if is_duplicate(of, reply) {
         Some(ReplyFault::Duplicate)

@@ -12,6 +12,7 @@ pub mod asking;
 pub mod association;
 pub mod candidates;
 pub mod choosing;
+pub mod due_times;
 pub mod judging;
 pub mod peers;
 pub mod reading;
@@ -23,7 +24,9 @@ pub mod systems;
 mod tests;
 
 pub use access_rules::ServerLine;
+pub use asking::MAX_REQUEST_LEN;
 pub use association::Association;
+pub use due_times::{NextRequest, moment_after};
 pub use judging::ReplyFault;
 pub use peers::{MAX_PEERS, Peers, TakenReply};
 pub use reading::Reply;

@@ -1,18 +1,21 @@
-ghost use Rattle.std.specs.Prelude.{◌≡◌, ◌+◌, ◌-◌, ◌*◌, ◌^◌, ◌≤◌, ◌<◌, ◌↔◌, Option, None, Some, Err, false, length, map, slice_get, slice_set, IfErr, IfOk, IfSome, IsSome};
+ghost use Rattle.std.specs.Prelude.{◌≡◌, ◌≢◌, ◌+◌, ◌-◌, ◌*◌, ◌^◌, ◌≤◌, ◌<◌, ◌↔◌, Option, None, Some, Err, codes, false, length, map, slice_get, slice_set, IfErr, IfOk, IfSome, IsSome};
 ghost use Rattle.std.specs.List.{position};
 ghost use Rattle.associations.specs.Accepting.{judged, verdict_of};
 ghost use Rattle.associations.specs.Associations.{ArePeers, asked, opened};
+ghost use Rattle.associations.specs.DueTimes.{moment_after};
+ghost use Rattle.associations.specs.declared.asking.TheConstants.{MAX_REQUEST_LEN};
 ghost use Rattle.associations.specs.Judging.{IsDecided, ends_waiting};
 ghost use Rattle.associations.specs.Replies.{IsRead};
 ghost use Rattle.associations.specs.Requests.{request_header, request_of};
 ghost use Rattle.associations.specs.Settling.{IsSettled};
 ghost use Rattle.associations.specs.Showing.{AreViews};
 ghost use Rattle.ntp_packet.specs.Packet.{IsPacket};
-ghost use Rattle.associations.specs.Taking.{HasPeer, IsReadable, answer_by, answer_to, line_for, moment_after, peer_at, peers_after, place_for, same_addr, time_at};
+ghost use Rattle.associations.specs.Taking.{HasPeer, IsReadable, answer_by, answer_to, line_for, peer_at, peers_after, place_for, same_addr, time_at};
 
 use crate::accepting::judge;
 use crate::asking::make_request;
 use crate::association::{Association, note_request, open};
+use crate::due_times::{NextRequest, is_rate, moment_after, seconds_of};
 use crate::judging::ReplyFault;
 use crate::reading::{Reply, read_reply};
 use crate::settling::settle_all;
@@ -87,23 +90,6 @@ fn answer(peer: u16, verdict: Result<bool, ReplyFault>) -> Result<TakenReply, Re
     }
 }
 
-/// The seconds of a poll interval.
-fn seconds_of(poll: u8) -> u64
-    requires { poll ≤ 17 }
-    ensures value { result ≡ 2 ^ poll }
-    ensures most { result ≤ 2 ^ 17 }
-{
-    2u64.pow(u32::from(poll))
-}
-
-/// The moment that is so many seconds later, if there is one.
-fn moment_after(seconds: u64, moment: u64) -> Option<u64>
-    requires { seconds ≤ 2 ^ 19 }
-    ensures { result ≡ moment_after seconds moment }
-{
-    moment.checked_add(seconds * (1 << 32))
-}
-
 impl Peers {
     /// An association for each line; no server was asked yet.
     pub fn of(alloc: Global, lines: &[ServerLine]) -> Result<Peers, AllocError>
@@ -112,7 +98,7 @@ impl Peers {
     {
         let mut list = Vec::with_capacity(alloc, lines.len())?;
         for line in lines {
-            list.push(open(*line))?;
+            list.push_reserved(open(*line));
         }
         Ok(Peers { list })
     }
@@ -134,6 +120,14 @@ impl Peers {
         self.list[usize::from(peer) - 1].reach
     }
 
+    /// The address and port of a peer's line. Takes no memory.
+    pub fn addr_of(&self, peer: u16) -> Addr
+        requires { HasPeer self.now peer }
+        ensures { IfSome (peer_at self.now peer) (λ p. result ≡ p.line.addr) }
+    {
+        self.list[usize::from(peer) - 1].line.addr
+    }
+
     /// The poll exponent of a peer's line: its requests are 2^poll seconds apart.
     pub fn poll(&self, peer: u16) -> u8
         requires { HasPeer self.now peer }
@@ -151,14 +145,22 @@ impl Peers {
         moment_after(seconds_of(self.poll(peer)), moment)
     }
 
-    /// When a peer is asked next after the kiss code RATE came at the moment: four poll intervals
-    /// later (RFC 5905, section 7.4). None exactly where that is past the last moment.
-    pub fn next_after_rate(&self, peer: u16, moment: u64) -> Option<u64>
+    /// When a peer is asked next, after a reply of it that came at the moment was refused for this
+    /// fault. The kiss code RATE puts the next request off: it is due four poll intervals after the
+    /// moment, in 32.32 seconds (RFC 5905, section 7.4). Any other fault leaves it as it was due.
+    pub fn next_after_fault(&self, peer: u16, fault: ReplyFault, moment: u64) -> NextRequest
         requires { HasPeer self.now peer }
-        ensures { IfSome (peer_at self.now peer) (λ p.
-            result ≡ moment_after (4 * 2 ^ p.line.poll) moment) }
+        ensures put_off { fault ≡ ReplyFault.Kiss (codes "RATE")
+            → IfSome (peer_at self.now peer) (λ p.
+            result ≡ NextRequest.Due (moment_after (4 * 2 ^ p.line.poll) moment)) }
+        ensures as_before { fault ≢ ReplyFault.Kiss (codes "RATE") → result ≡ NextRequest.AsBefore }
     {
-        moment_after(4 * seconds_of(self.poll(peer)), moment)
+        if is_rate(fault) {
+            let seconds = 4 * seconds_of(self.poll(peer));
+            NextRequest::Due(moment_after(seconds, moment))
+        } else {
+            NextRequest::AsBefore
+        }
     }
 
     /// The place of the first line with this address and port, or the end.
@@ -199,6 +201,7 @@ impl Peers {
             self.new ≡ slice_set self.old (peer - 1) (asked p (time_at clock.now moment))) }
         ensures packet { IfSome (peer_at self.old peer) (λ p.
             IsPacket result (request_header p.line (time_at clock.now moment))) }
+        ensures short { length result ≤ MAX_REQUEST_LEN }
         ensures len { length self.new ≡ length self.old }
     {
         let transmit = clock.at(moment);
@@ -228,6 +231,7 @@ impl Peers {
             → self.new ≡ peers_after self.old from.now reading (time_at clock.now moment) moment }
         ensures kept { IfErr result (λ fault. ends_waiting fault ≡ false → self.new ≡ self.old) }
         ensures by { IfOk result (λ taken. line_for self.old from.now ≡ Some taken.peer) }
+        ensures there { IfOk result (λ taken. HasPeer self.new taken.peer) }
         ensures len { length self.new ≡ length self.old }
 
         // The two faults that no association decides.
@@ -251,8 +255,9 @@ impl Peers {
     /// values are answered. A step of the clock has all peers forget their samples. Takes no memory.
     pub fn settle(&mut self, peer: u16, engine: &mut Loop, old: &System, moment: u64) -> System
         requires { HasPeer self.old peer }
-        ensures settled { IfSome (peer_at self.old peer) (λ p.
-            IsSettled self.old p peer engine.old old.now moment self.new engine.new result) }
+        ensures settled { IsSettled
+            (record { peers = self.old; engine = engine.old; system = old.now }) peer moment
+            (record { peers = self.new; engine = engine.new; system = result }) }
         ensures len { length self.new ≡ length self.old }
     {
         settle_all(&mut self.list, peer, engine, old, moment)
@@ -262,8 +267,16 @@ impl Peers {
     pub fn views(&self) -> Result<PeerViews, AllocError>
         ensures { IfOk result (λ views. AreViews self.now views) }
     {
-        let views = view_all(*self.list.allocator(), &self.list)?;
-        Ok(PeerViews::of(views))
+        let mut views = PeerViews::new(*self.list.allocator())?;
+        self.show(&mut views);
+        Ok(views)
+    }
+
+    /// Puts what is published of the peers in the place of other views. Takes no memory.
+    pub fn show(&self, views: &mut PeerViews)
+        ensures { AreViews self.now views.new }
+    {
+        view_all(&self.list, views);
     }
 
     /// Judges a reply for the peer at a place.

@@ -1,11 +1,11 @@
-ghost use Rattle.std.specs.Prelude.{◌≡◌, ◌<◌, ◌≤◌, IfSome, length, map};
+ghost use Rattle.std.specs.Prelude.{◌≡◌, ◌<◌, ◌≤◌, length, map};
 ghost use Rattle.std.specs.List.{All};
 ghost use Rattle.associations.specs.Associations.{IsAssociation};
 ghost use Rattle.associations.specs.Candidates.{IsNear};
 ghost use Rattle.associations.specs.Choices.{HasMajority, combined_of, survivors_in};
-ghost use Rattle.associations.specs.Settling.{IsSettled, course_by, course_of, forgotten, is_step, is_stepped, loop_by, values_by};
+ghost use Rattle.associations.specs.Settling.{IsSettled, case_by, case_of, forgotten, is_step, is_stepped, loop_by, values_by};
 ghost use Rattle.associations.specs.Systems.{values_of};
-ghost use Rattle.associations.specs.Taking.{HasPeer, peer_at};
+ghost use Rattle.associations.specs.Taking.{HasPeer};
 ghost use Rattle.fixed_time.specs.declared.apart.TheConstants.{CAP};
 ghost use Rattle.select_cluster.specs.Combining.{system_peer};
 
@@ -46,13 +46,13 @@ fn combine_all(survivors: &Survivors) -> Combined
 }
 
 /// Forgets what was measured by a clock that is stepped since.
-fn forget(p: &mut Association)
-    ensures value { p.new ≡ forgotten p.old }
-    ensures sound { IsAssociation p.old → IsAssociation p.new }
+fn forget(server: &mut Association)
+    ensures value { server.new ≡ forgotten server.old }
+    ensures sound { IsAssociation server.old → IsAssociation server.new }
 {
-    p.pending = None;
-    p.filter = Filter::new();
-    p.estimate = None;
+    server.pending = None;
+    server.filter = Filter::new();
+    server.estimate = None;
 }
 
 /// Forgets it of all servers.
@@ -60,28 +60,28 @@ fn forget_all(list: &mut [Association])
     ensures value { list.new ≡ map forgotten list.old }
     ensures sound { All IsAssociation list.old → All IsAssociation list.new }
 {
-    for p in list.iter_mut() {
-        forget(p);
+    for server in list.iter_mut() {
+        forget(server);
     }
 }
 
 /// Gives the combined offset to the discipline, where the server of this number is the system peer.
-fn discipline(
-    p: &Association,
+fn update_loop(
+    server: &Association,
     peer: u16,
     combined: Combined,
     engine: &mut Loop,
     old: System,
     moment: u64,
 ) -> Settled
-    requires sound { IsAssociation p.now }
+    requires sound { IsAssociation server.now }
     requires capped { combined.jitter ≤ CAP }
-    requires near { combined.system ≡ peer → IsNear moment p.now }
-    ensures steered { engine.new ≡ loop_by (course_by combined peer engine.old moment) combined
-        p.now.line.poll engine.old moment }
-    ensures shown { values_of result.system ≡ values_by (course_by combined peer engine.old moment)
-        p.now combined engine.new moment (values_of old) }
-    ensures stepped { result.is_stepped ≡ is_stepped (course_by combined peer engine.old moment) }
+    requires near { combined.system ≡ peer → IsNear moment server.now }
+    ensures steered { engine.new ≡ loop_by (case_by combined peer engine.old moment) combined
+        server.now.line.poll engine.old moment }
+    ensures shown { values_of result.system ≡ values_by (case_by combined peer engine.old moment)
+        server.now combined engine.new moment (values_of old) }
+    ensures stepped { result.is_stepped ≡ is_stepped (case_by combined peer engine.old moment) }
 {
     if combined.system != peer {
         return Settled {
@@ -89,30 +89,30 @@ fn discipline(
             is_stepped: false,
         };
     }
-    let change = engine.update(combined.offset, p.line.poll, moment);
+    let change = engine.update(combined.offset, server.line.poll, moment);
     Settled {
-        system: change_system(old, change, p, combined, engine, moment),
+        system: change_system(old, change, server, combined, engine, moment),
         is_stepped: is_step(change),
     }
 }
 
 /// What a choice makes of loop and system.
-fn follow(
-    p: &Association,
+fn apply_choice(
+    server: &Association,
     peer: u16,
     choice: &Choice,
     engine: &mut Loop,
     old: System,
     moment: u64,
 ) -> Settled
-    requires sound { IsAssociation p.now }
+    requires sound { IsAssociation server.now }
     requires some { HasMajority choice.now → 0 < length (survivors_in choice.now) }
-    requires near { system_peer (survivors_in choice.now) ≡ peer → IsNear moment p.now }
-    ensures steered { engine.new ≡ loop_by (course_of choice.now peer engine.old moment)
-        (combined_of (survivors_in choice.now)) p.now.line.poll engine.old moment }
-    ensures shown { values_of result.system ≡ values_by (course_of choice.now peer engine.old moment)
-        p.now (combined_of (survivors_in choice.now)) engine.new moment (values_of old) }
-    ensures stepped { result.is_stepped ≡ is_stepped (course_of choice.now peer engine.old moment) }
+    requires near { system_peer (survivors_in choice.now) ≡ peer → IsNear moment server.now }
+    ensures steered { engine.new ≡ loop_by (case_of choice.now peer engine.old moment)
+        (combined_of (survivors_in choice.now)) server.now.line.poll engine.old moment }
+    ensures shown { values_of result.system ≡ values_by (case_of choice.now peer engine.old moment)
+        server.now (combined_of (survivors_in choice.now)) engine.new moment (values_of old) }
+    ensures stepped { result.is_stepped ≡ is_stepped (case_of choice.now peer engine.old moment) }
 {
     match choice {
         Choice::NoMajority => Settled {
@@ -120,7 +120,7 @@ fn follow(
             is_stepped: false,
         },
         Choice::Majority { survivors, .. } => {
-            discipline(p, peer, combine_all(survivors), engine, old, moment)
+            update_loop(server, peer, combine_all(survivors), engine, old, moment)
         }
     }
 }
@@ -136,12 +136,13 @@ pub(crate) fn settle_all(
     requires few { length list.old ≤ MAX_PEERS }
     requires sound { All IsAssociation list.old }
     requires there { HasPeer list.old peer }
-    ensures settled { IfSome (peer_at list.old peer) (λ p.
-        IsSettled list.old p peer engine.old old.now moment list.new engine.new result) }
+    ensures settled { IsSettled
+        (record { peers = list.old; engine = engine.old; system = old.now }) peer moment
+        (record { peers = list.new; engine = engine.new; system = result }) }
     ensures sound { All IsAssociation list.new }
 {
     let choice = choose(&gather(list, moment));
-    let settled = follow(
+    let settled = apply_choice(
         &list[usize::from(peer) - 1],
         peer,
         &choice,

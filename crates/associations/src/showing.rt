@@ -1,4 +1,4 @@
-ghost use Rattle.std.specs.Prelude.{◌≡◌, ◌≤◌, IfOk, length};
+ghost use Rattle.std.specs.Prelude.{◌≡◌, ◌≤◌, length};
 ghost use Rattle.std.specs.List.{All};
 ghost use Rattle.associations.specs.Associations.{IsAssociation};
 ghost use Rattle.associations.specs.Showing.{AreViews, IsViewOf, estimate_shown};
@@ -7,15 +7,14 @@ use crate::association::Association;
 use crate::peers::MAX_PEERS;
 use clock_filter::Estimate;
 use fixed_time::{MAX_DISPERSION, Span};
-use std::alloc::{AllocError, Global};
-use sys_vars::PeerView;
+use sys_vars::{PeerView, PeerViews};
 
 /// The estimate that a server shows.
 pub(crate) fn show_estimate(estimate: Option<Estimate>) -> Estimate
     ensures { result ≡ estimate_shown estimate }
 {
     match estimate {
-        Some(e) => e,
+        Some(estimate) => estimate,
         None => Estimate {
             offset: Span(0),
             delay: 0,
@@ -27,48 +26,47 @@ pub(crate) fn show_estimate(estimate: Option<Estimate>) -> Estimate
 }
 
 /// The view of the server of this number.
-fn view(p: &Association, assoc: u16) -> PeerView
-    requires { IsAssociation p.now }
-    ensures { IsViewOf assoc p.now result }
+fn view(server: &Association, assoc: u16) -> PeerView
+    requires { IsAssociation server.now }
+    ensures { IsViewOf assoc server.now result }
 {
-    let e = show_estimate(p.estimate);
+    let estimate = show_estimate(server.estimate);
     PeerView {
         assoc,
-        addr: p.line.addr,
-        key: p.line.key,
-        hpoll: p.line.poll,
-        ppoll: p.ppoll,
-        pmode: p.pmode,
-        leap: p.leap,
-        stratum: p.stratum,
-        precision: p.precision,
-        root_delay: p.root_delay,
-        root_disp: p.root_disp,
-        refid: p.refid,
-        reference: p.reference,
-        received: p.received,
-        reach: p.reach,
-        offset: e.offset,
-        delay: e.delay,
-        disp: e.disp,
-        jitter: e.jitter,
-        stages: p.filter.stages(),
-        auth_ok: p.auth_ok,
-        selection: p.selection,
-        events: p.events,
-        code: p.code,
+        addr: server.line.addr,
+        key: server.line.key,
+        hpoll: server.line.poll,
+        ppoll: server.ppoll,
+        pmode: server.pmode,
+        leap: server.leap,
+        stratum: server.stratum,
+        precision: server.precision,
+        root_delay: server.root_delay,
+        root_disp: server.root_disp,
+        refid: server.refid,
+        reference: server.reference,
+        received: server.received,
+        reach: server.reach,
+        offset: estimate.offset,
+        delay: estimate.delay,
+        disp: estimate.disp,
+        jitter: estimate.jitter,
+        stages: server.filter.stages(),
+        auth_ok: server.auth_ok,
+        selection: server.selection,
+        events: server.events,
+        code: server.code,
     }
 }
 
-/// The views of the servers, in the order of their numbers.
-pub(crate) fn view_all(alloc: Global, list: &[Association]) -> Result<Vec<PeerView>, AllocError>
+/// Puts the views of the servers in the place of others, in the order of their numbers.
+pub(crate) fn view_all(list: &[Association], views: &mut PeerViews)
     requires few { length list.now ≤ MAX_PEERS }
     requires sound { All IsAssociation list.now }
-    ensures { IfOk result (λ views. AreViews list.now views.items) }
+    ensures { AreViews list.now views.new }
 {
-    let mut views = Vec::with_capacity(alloc, list.len())?;
+    views.clear();
     for place in 0..list.len() {
-        views.push(view(&list[place], place as u16 + 1))?;
+        views.push(view(&list[place], place as u16 + 1));
     }
-    Ok(views)
 }

@@ -78,15 +78,15 @@ pub(crate) fn unselect(system: System) -> System
 }
 
 /// The leap indicator that comes from a server.
-fn find_leap(p: &Association) -> u8
-    requires { p.now.leap ≤ 3 }
-    ensures value { result ≡ leap_below p.now }
+fn find_leap(server: &Association) -> u8
+    requires { server.now.leap ≤ 3 }
+    ensures value { result ≡ leap_below server.now }
     ensures within { result ≤ 3 }
 {
-    if p.stratum == MAX_SYNCHRONISED {
+    if server.stratum == MAX_SYNCHRONISED {
         LEAP_UNKNOWN
     } else {
-        p.leap
+        server.leap
     }
 }
 
@@ -117,30 +117,33 @@ fn make_refid(ip: &Ip) -> [u8; 4]
 /// The system that the system peer and the survivors set, in the state that it had.
 fn adjust(
     system: System,
-    p: &Association,
+    server: &Association,
     combined: Combined,
     clock: SoftClock,
     moment: u64,
 ) -> System
-    requires leap { p.now.leap ≤ 3 }
-    requires stratum { p.now.stratum ≤ 16 }
-    requires near { IsNear moment p.now }
+    requires leap { server.now.leap ≤ 3 }
+    requires stratum { server.now.stratum ≤ 16 }
+    requires near { IsNear moment server.now }
     requires capped { combined.jitter ≤ CAP }
     requires small { unsigned_abs combined.offset.0 ≤ STEP_THRESHOLD }
-    ensures { values_of result ≡ adjusted p.now combined clock moment (values_of system) }
+    ensures { values_of result ≡ adjusted server.now combined clock moment (values_of system) }
 {
-    let e = show_estimate(p.estimate);
+    let estimate = show_estimate(server.estimate);
     System {
-        leap: find_leap(p),
-        stratum: p.stratum + 1,
+        leap: find_leap(server),
+        stratum: server.stratum + 1,
         precision: system.precision,
-        root_delay: p.root_delay + e.delay,
-        root_disp: p.root_disp + e.disp + combined.offset.0.unsigned_abs() + combined.jitter,
-        refid: make_refid(&p.line.addr.ip),
+        root_delay: server.root_delay + estimate.delay,
+        root_disp: server.root_disp
+            + estimate.disp
+            + combined.offset.0.unsigned_abs()
+            + combined.jitter,
+        refid: make_refid(&server.line.addr.ip),
         reference: clock.at(moment),
         at: moment,
         peer: combined.system,
-        poll: p.line.poll,
+        poll: server.line.poll,
         offset: combined.offset,
         freq: clock.freq,
         jitter: combined.jitter,
@@ -180,23 +183,23 @@ fn step(system: System, clock: SoftClock, moment: u64) -> System
 pub(crate) fn change_system(
     system: System,
     change: Change,
-    p: &Association,
+    server: &Association,
     combined: Combined,
     engine: &Loop,
     moment: u64,
 ) -> System
-    requires sound { IsAssociation p.now }
-    requires near { IsNear moment p.now }
+    requires sound { IsAssociation server.now }
+    requires near { IsNear moment server.now }
     requires capped { combined.jitter ≤ CAP }
     requires small { change ≡ Change.Adjusted → unsigned_abs combined.offset.0 ≤ STEP_THRESHOLD }
     ensures { values_of result
-        ≡ after_change change p.now combined engine.now moment (values_of system) }
+        ≡ after_change change server.now combined engine.now moment (values_of system) }
 {
     match change {
         Change::Panic => note_system_event(system, PANIC_STOP),
         Change::Ignored => enter(system, engine.state()),
         Change::Adjusted => enter(
-            adjust(system, p, combined, engine.clock(), moment),
+            adjust(system, server, combined, engine.clock(), moment),
             engine.state(),
         ),
         Change::Stepped => enter(step(system, engine.clock(), moment), engine.state()),

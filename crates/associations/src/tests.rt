@@ -1,4 +1,5 @@
 use crate::association::Association;
+use crate::due_times::NextRequest;
 use crate::judging::ReplyFault;
 use crate::peers::{Peers, TakenReply};
 use access_rules::ServerLine;
@@ -394,7 +395,18 @@ fn the_kiss_code_rate_puts_the_next_request_off(rt: HostRuntime) -> Result<(), F
     assert_eq!(rt; answer, Err(ReplyFault::Kiss(*b"RATE")));
     assert!(rt; peers.len() == 1);
     assert_eq!(rt; peers.next_request(1, SECOND), Some(65 * SECOND));
-    assert_eq!(rt; peers.next_after_rate(1, 2 * SECOND), Some(258 * SECOND));
+    let denied = ReplyFault::Kiss(*b"DENY");
+    let cases = [
+        (
+            ReplyFault::Kiss(*b"RATE"),
+            NextRequest::Due(Some(258 * SECOND)),
+        ),
+        (denied, NextRequest::AsBefore),
+        (ReplyFault::TooFar, NextRequest::AsBefore),
+    ];
+    for (fault, next) in cases {
+        assert_eq!(rt; peers.next_after_fault(1, fault, 2 * SECOND), next);
+    }
     assert_eq!(rt; peers.next_request(1, u64::MAX - 63 * SECOND), None);
     Ok(())
 }
@@ -413,6 +425,7 @@ fn the_first_line_of_an_address_counts(rt: HostRuntime) -> Result<(), Fail> {
     assert_eq!(rt; peers.len(), 3);
     for (peer, poll) in [(1, 6), (2, 7), (3, 8)] {
         assert_eq!(rt; (peers.poll(peer), peers.reach(peer)), (poll, 0));
+        assert_eq!(rt; peers.addr_of(peer), if peer == 1 { SERVER } else { other });
     }
     Ok(())
 }

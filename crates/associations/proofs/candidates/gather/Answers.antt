@@ -20,9 +20,9 @@ loop-place-preserved c = record {
       let d = c.index-list-place.result in
       let inside : i < length (numbered list) = omega (arith, c.loop-place-test.true, length-enumerate_from 1 list) in
       let kept = λ (np : ℕ × Association). candidate_of c.args.moment np.0 np.1 in
-      filter_map-step kept (numbered list) i (0, d) c.loop-place.candidates.items _ c.take_candidate.result
+      filter_map-step kept (numbered list) i (0, d) c.loop-place.candidates.items _ c.candidate_of.result
       c.loop-place.invariant.so_far inside
-      (c.take_candidate.ensures ∙ ap (candidate_of c.args.moment (i + 1)) c.index-list-place.is ∙ ap kept (sym (number_at list i d c.loop-place-test.true)))
+      (c.candidate_of.ensures ∙ ap (candidate_of c.args.moment (i + 1)) c.index-list-place.is ∙ ap kept (sym (number_at list i d c.loop-place-test.true)))
       c.keep.ensures.items;
   few = omega (arith, c.keep.ensures.len, c.loop-place.invariant.few);
 }

@@ -14,10 +14,10 @@ pub loop-place-preserved : goal.loop-place-preserved
 loop-place-preserved c = record {
   so_far =
       changed_more (λ (np : ℕ × Association). marked_one c.args.choice.now c.args.moment np.0 np.1)
-      c.args.list.now c.loop-place.list c.loop-place.place c.index-list-place.result c.mark_one.new.p
+      c.args.list.now c.loop-place.list c.loop-place.place c.index-list-place.result c.mark_one.new.server
       c.loop-place-test.true c.loop-place.invariant.so_far
       c.mark_one.ensures.value;
   sound = λ all.
-      All-changed c.loop-place.list c.loop-place.place c.index-list-place.result c.mark_one.new.p
+      All-changed c.loop-place.list c.loop-place.place c.index-list-place.result c.mark_one.new.server
       (omega arith) c.mark_one.ensures.sound (c.loop-place.invariant.sound all);
 }

@@ -5,13 +5,13 @@ use Rattle.associations.specs.Settling.{forgotten}
 use Rattle.associations.proofs.TakingLemmas.{All-changed}
 use Rattle.associations.proofs.settling.forget_all.Goals as goal
 
-pub loop-p-preserved : goal.loop-p-preserved
-loop-p-preserved c = record {
+pub loop-server-preserved : goal.loop-server-preserved
+loop-server-preserved c = record {
   so_far =
-      ap (set c.loop-p.list c.loop-p.p-index) (c.forget.ensures.value ∙ ap forgotten (sym c.p-item.is))
-      ∙ map_over_more forgotten c.args.list.now c.loop-p.list c.loop-p.p-index c.p-item.result
-      (omega arith) c.loop-p.invariant.so_far c.p-item.is;
+      ap (set c.loop-server.list c.loop-server.server-index) (c.forget.ensures.value ∙ ap forgotten (sym c.server-item.is))
+      ∙ map_over_more forgotten c.args.list.now c.loop-server.list c.loop-server.server-index c.server-item.result
+      (omega arith) c.loop-server.invariant.so_far c.server-item.is;
   sound = λ all.
-      All-changed c.loop-p.list c.loop-p.p-index c.p-item.result c.forget.new.p
-      (omega arith) c.forget.ensures.sound (c.loop-p.invariant.sound all);
+      All-changed c.loop-server.list c.loop-server.server-index c.server-item.result c.forget.new.server
+      (omega arith) c.forget.ensures.sound (c.loop-server.invariant.sound all);
 }

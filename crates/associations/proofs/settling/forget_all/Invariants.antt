@@ -5,8 +5,8 @@ use Rattle.associations.specs.Settling.{forgotten}
 use Rattle.associations.proofs.settling.forget_all.Given as goal
 
 -- the servers before this one have forgotten, and the others are as they were
-abbrev pub invariant-loop-p : goal.invariant-loop-p
-invariant-loop-p l = record {
-  so_far : l.list ≡ map forgotten (take l.p-index l.initial.list) ++ drop l.p-index l.initial.list;
+abbrev pub invariant-loop-server : goal.invariant-loop-server
+invariant-loop-server l = record {
+  so_far : l.list ≡ map forgotten (take l.server-index l.initial.list) ++ drop l.server-index l.initial.list;
   sound : All IsAssociation l.initial.list → All IsAssociation l.list;
 }
