@@ -5,7 +5,8 @@ use Rattle.std.proofs.lemmas.Bool.Decides.{nat_tests}
 use Rattle.std.proofs.Math.Seq.{drop-append_seam}
 use Rattle.mac_keys.specs.declared.keys.Key.{Key}
 use Rattle.mac_keys.specs.Digests.{digest_of}
-use Rattle.ntp_trailer.specs.declared.parts.TheConstants.{HEADER_LEN, KEY_ID_LEN}
+use Rattle.ntp_packet.specs.declared.packet.TheConstants.{HEADER_LEN}
+use Rattle.ntp_trailer.specs.declared.parts.TheConstants.{KEY_ID_LEN}
 use Rattle.ntp_trailer.specs.declared.parts.Mac.{Mac}
 use Rattle.ntp_trailer.specs.declared.parts.Trailer.{Trailer}
 use Rattle.ntp_trailer.specs.Trailers.{HasTrailer, IsTrailer, IsEnd, mac_at, mac_from, place_after}

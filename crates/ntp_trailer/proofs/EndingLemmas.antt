@@ -3,7 +3,8 @@ use Rattle.std.proofs.Common.{ℕ, ◌≡◌, ◌%◌, ◌<◌, ◌≤◌, ◌�
 use Rattle.std.specs.List.{concat}
 use Rattle.std.proofs.lemmas.Bool.{cases_lt, cases_eq}
 use Rattle.std.proofs.lemmas.Bool.Decides.{nat_tests}
-use Rattle.ntp_trailer.specs.declared.parts.TheConstants.{HEADER_LEN, MAX_MAC_LEN, MIN_FIELD_LEN}
+use Rattle.ntp_packet.specs.declared.packet.TheConstants.{HEADER_LEN}
+use Rattle.ntp_trailer.specs.declared.parts.TheConstants.{MAX_MAC_LEN, MIN_FIELD_LEN}
 use Rattle.ntp_trailer.specs.declared.parts.Trailer.{Trailer}
 use Rattle.ntp_trailer.specs.declared.parts.TrailerFault.{TrailerFault}
 use Rattle.ntp_trailer.specs.declared.parts.TrailerFault.TheVariants.{Ragged, FieldShort, FieldLong, BadRemainder}

@@ -1,4 +1,5 @@
 pub mod DivisionLemmas
 pub mod EndingLemmas
 pub mod AuthenticLemmas
+pub mod PacketLemmas
 mod StandardFacts

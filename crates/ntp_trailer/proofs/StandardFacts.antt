@@ -1,7 +1,8 @@
 -- Worked octets after a header: fields and MACs (RFC 5905, sections 7.3 and 7.5).
-use Rattle.std.proofs.Common.{◌≡◌, ℕ, List, [], ◌∷◌, ◌++◌, replicate, Some, refl, inl, inr, lit<, lit≤}
-use Rattle.ntp_trailer.specs.declared.parts.TheConstants.{HEADER_LEN}
-use Rattle.ntp_trailer.specs.Trailers.{length_said, IsField, IsTrailer, trailer_of}
+use Rattle.std.proofs.Common.{◌≡◌, ℕ, List, [], ◌∷◌, ◌++◌, replicate, Some, refl, inl, inr, lit<, lit≤, arith}
+use Rattle.ntp_packet.specs.declared.packet.TheConstants.{HEADER_LEN}
+use Rattle.ntp_trailer.specs.declared.parts.TheConstants.{MIN_FIELD_LEN, MAX_MAC_LEN, KEY_ID_LEN}
+use Rattle.ntp_trailer.specs.Trailers.{length_said, IsField, IsFieldLength, IsTrailer, trailer_of}
 
 -- a field of type 2 and 16 octets
 abbrev field : List ℕ
@@ -34,3 +35,19 @@ two_fields-places = refl
 -- a MAC of 20 octets that begin as a field of 16 would: no field is looked for
 short_mac-is : IsTrailer (replicate HEADER_LEN 0 ++ (field ++ replicate 4 0)) [] (field ++ replicate 4 0)
 short_mac-is = record { division = record { joined = refl; are_fields = tt }; end = inr (inr (inl refl)) }
+
+MIN_FIELD_LEN-is : MIN_FIELD_LEN ≡ 16
+MIN_FIELD_LEN-is = refl
+
+MAX_MAC_LEN-is : MAX_MAC_LEN ≡ 24
+MAX_MAC_LEN-is = refl
+
+KEY_ID_LEN-is : KEY_ID_LEN ≡ 4
+KEY_ID_LEN-is = refl
+
+-- three words are no field, nor are 18 octets
+three_words-no_field : ¬ (IsFieldLength 12)
+three_words-no_field allowed = absurd (omega (arith, allowed.0))
+
+ragged-no_field : ¬ (IsFieldLength 18)
+ragged-no_field allowed = absurd (omega (arith, allowed.1))

@@ -1,6 +1,7 @@
 -- Where the extension fields end, and what the remainder behind them is (RFC 5905, section 7.5).
 use Rattle.std.specs.Prelude.{◌≡◌, ℕ, ◌%◌, ◌<◌, ◌≤◌, ◌==◌, ◌&&◌, ◌||◌, not, nat_lt, if◌then◌else◌, List, length, Result, Ok, Err}
-use Rattle.ntp_trailer.specs.declared.parts.TheConstants.{HEADER_LEN, MIN_FIELD_LEN, MAX_MAC_LEN}
+use Rattle.ntp_packet.specs.declared.packet.TheConstants.{HEADER_LEN}
+use Rattle.ntp_trailer.specs.declared.parts.TheConstants.{MIN_FIELD_LEN, MAX_MAC_LEN}
 use Rattle.ntp_trailer.specs.declared.parts.Trailer.{Trailer}
 use Rattle.ntp_trailer.specs.declared.parts.TrailerFault.{TrailerFault}
 use Rattle.ntp_trailer.specs.declared.parts.TrailerFault.TheVariants.{FieldShort, FieldLong, BadRemainder}

@@ -2,7 +2,8 @@
 use Rattle.std.specs.Prelude.{◌≡◌, ℕ, ◌+◌, ◌%◌, ◌<◌, ◌≤◌, ◌==◌, ◌⊎◌, if◌then◌else◌, List, [], ◌∷◌, ◌++◌, length, drop, Option, Some, None}
 use Rattle.std.specs.List.{concat}
 use Rattle.byteorder.specs.Endian.{big_number}
-use Rattle.ntp_trailer.specs.declared.parts.TheConstants.{HEADER_LEN, MIN_FIELD_LEN, MAX_MAC_LEN, KEY_ID_LEN}
+use Rattle.ntp_packet.specs.declared.packet.TheConstants.{HEADER_LEN}
+use Rattle.ntp_trailer.specs.declared.parts.TheConstants.{MIN_FIELD_LEN, MAX_MAC_LEN, KEY_ID_LEN}
 use Rattle.ntp_trailer.specs.declared.parts.Mac.{Mac}
 use Rattle.ntp_trailer.specs.declared.parts.Trailer.{Trailer}
 use Rattle.ntp_trailer.specs.declared.parts.TrailerFault.{TrailerFault}

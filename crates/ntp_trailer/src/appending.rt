@@ -3,10 +3,11 @@ ghost use Rattle.byteorder.specs.Endian.{big_bytes};
 ghost use Rattle.ntp_trailer.specs.Trailers.{IsTrailer};
 ghost use Rattle.ntp_trailer.specs.Authentic.{spelled_mac};
 
-use crate::parts::{HEADER_LEN, KEY_ID_LEN, MAX_MAC_LEN};
+use crate::parts::{KEY_ID_LEN, MAX_MAC_LEN};
 use byteorder::{BigEndian, ByteOrder};
 use edge_traits::{MAX_OCTETS, Octets};
 use mac_keys::{Key, digest};
+use ntp_packet::HEADER_LEN;
 
 /// Appends the key's MAC of all octets so far: its id and its digest (RFC 5905, section 7.3).
 pub fn append_mac(key: &Key, packet: &mut Octets)

@@ -10,13 +10,6 @@ use mac_keys::{Auth, KeyTable, check};
 /// it is that of the key with its id, or it is bad, as a key id alone always is.
 pub fn auth(keys: &KeyTable, bytes: &[u8], trailer: &Trailer) -> Auth
     requires { HasTrailer bytes.now trailer.now }
-    ensures absent { (result ≡ Auth.Absent) ↔ (trailer.now.mac ≡ None) }
-    ensures good { (id : ℕ)
-        → ((result ≡ Auth.Good id) ↔ IsAuthenticTrailer keys.now bytes.now trailer.now id) }
-    ensures bad { (result ≡ Auth.Bad) ↔ (¬ (trailer.now.mac ≡ None)
-        × ((id : ℕ) → ¬ (IsAuthenticTrailer keys.now bytes.now trailer.now id))) }
-
-    // What is answered is what the MAC shows, and no other answer is.
     ensures shown { IsAuth keys.now bytes.now trailer.now result }
     ensures only { (other : Auth) → IsAuth keys.now bytes.now trailer.now other → result ≡ other }
 {
@@ -43,10 +36,10 @@ fn auth_of(keys: &KeyTable, bytes: &[u8], mac: Mac) -> Auth
 mod tests {
     use super::*;
     use crate::appending::append_mac;
-    use crate::parts::HEADER_LEN;
     use crate::splitting::split;
     use edge_traits::Octets;
     use mac_keys::{Algorithm, Key, Secret};
+    use ntp_packet::HEADER_LEN;
     use std::test::Fail;
 
     const HEADER: [u8; HEADER_LEN] = [

@@ -1,6 +1,3 @@
-/// The octets of the header, before all that this crate is about (RFC 5905, section 7.3).
-pub const HEADER_LEN: usize = 48;
-
 /// The least octets of an extension field: four words (RFC 5905, section 7.5).
 pub const MIN_FIELD_LEN: usize = 16;
 

@@ -2,11 +2,10 @@ ghost use Rattle.std.specs.Prelude.{◌≡◌, ◌+◌, ◌<◌, ◌≤◌, leng
 ghost use Rattle.ntp_trailer.specs.Trailers.{length_said, IsFieldLength, mac_at, HasTrailer, IsRefused};
 ghost use Rattle.ntp_trailer.specs.Endings.{BeginsField, LeadsTo, ending_of, field_fault_of};
 
-use crate::parts::{
-    HEADER_LEN, KEY_ID_LEN, MAX_MAC_LEN, MIN_FIELD_LEN, Mac, Trailer, TrailerFault,
-};
+use crate::parts::{KEY_ID_LEN, MAX_MAC_LEN, MIN_FIELD_LEN, Mac, Trailer, TrailerFault};
 use crate::places::behind;
 use byteorder::{BigEndian, ByteOrder};
+use ntp_packet::HEADER_LEN;
 
 /// The places of the extension fields and of the MAC behind the header of 48 octets
 /// (RFC 5905, sections 7.3 and 7.5).
