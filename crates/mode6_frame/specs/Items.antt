@@ -1,9 +1,10 @@
 -- Items of a control message: names in a text, separated by commas (RFC 9327, section 4). Which octets a name
 -- may have, and what is skipped, is our own rule.
-use Rattle.std.specs.Prelude.{◌≡◌, ℕ, ◌-◌, ◌^◌, ◌<◌, min, Bool, true, not, ◌==◌, ◌&&◌, ◌||◌, List, [], ◌∷◌, ◌++◌, ◌⊎◌, length, None, Result, Err}
+use Rattle.std.specs.Prelude.{◌≡◌, ℕ, ◌<◌, Bool, true, not, ◌==◌, ◌&&◌, ◌||◌, List, [], ◌∷◌, ◌++◌, length, None, Result}
 use Rattle.std.specs.List.{AllByRecursion}
 use Rattle.std.specs.Int.{is_in_range}
 use Rattle.refusals.specs.Refusals.{IsRefusedAt}
+use Rattle.refusals.specs.Told.{told_number, IsUnless}
 use Rattle.mode6_frame.specs.declared.items.Item.{Item}
 use Rattle.mode6_frame.specs.declared.items.ItemFault.{ItemFault}
 use Rattle.mode6_frame.specs.declared.items.ItemFault.TheVariants.{At, NoMemory}
@@ -67,15 +68,15 @@ pub record IsItemText (text : List ℕ) (items : List Item) : Type 0 where
   pub spelled : text ≡ closed_octets closed ++ slot_octets last
   pub named : items ≡ items_of closed ++ slot_items last
 
--- a place as the fault tells it: one past the last number of 32 bits stays there
-abbrev pub told_place : ℕ → ℕ
-told_place place = min place (2 ^ 32 - 1)
-
 -- what the fault says of the text is so: the place is that of the first octet at which no text of items goes on
 abbrev pub IsDue : List ℕ → ItemFault → Type 0
-IsDue text (At place) = (octets : ℕ) × IsRefusedAt IsItemText text octets × (place ≡ told_place octets)
+IsDue text (At place) = (octets : ℕ) × IsRefusedAt IsItemText text octets × (place ≡ told_number octets)
 IsDue text NoMemory = Unit {0}
+
+-- a place as the fault tells it
+abbrev pub told_place : ℕ → ℕ
+told_place = told_number
 
 -- the answer is this one, or memory was wanting
 abbrev pub IsUnlessNoMemory : Result (List Item) ItemFault → Result (List Item) ItemFault → Type 0
-IsUnlessNoMemory result wanted = (result ≡ wanted) ⊎ (result ≡ Err NoMemory)
+IsUnlessNoMemory = IsUnless NoMemory

@@ -4,4 +4,5 @@ pub mod Status
 pub mod Items
 pub mod ItemReader
 pub use Rattle.refusals.specs.Refusals
+pub use Rattle.refusals.specs.Told
 pub use Rattle.ntp_packet.specs.FirstOctet

@@ -1,13 +1,14 @@
 ghost use Rattle.std.specs.Prelude.{◌≡◌, ◌+◌, ◌≤◌, ℕ, List, Ok, Err, None, length, drop, IfOk, IfErr};
 ghost use Rattle.std.specs.List.{prefix_len};
 ghost use Rattle.refusals.specs.Refusals.{IsRefusedAt};
+ghost use Rattle.refusals.specs.Told.{IsUnless, told_number};
 ghost use Rattle.mode6_frame.specs.declared.items.Item.{Item};
 ghost use Rattle.mode6_frame.specs.declared.items.ItemFault.TheVariants.{At, NoMemory};
 ghost use Rattle.mode6_frame.specs.ItemReader.{IsSlotRead};
-ghost use Rattle.mode6_frame.specs.Items.{IsItemText, IsDue, IsUnlessNoMemory, is_white, is_name_octet, told_place};
+ghost use Rattle.mode6_frame.specs.Items.{IsItemText, IsDue, is_white, is_name_octet};
 
 use crate::items::{Item, ItemFault, Items};
-use crate::text::Text;
+use edge_traits::Text;
 use std::alloc::Global;
 
 /// The items of a text: names that commas separate, with white space around them skipped
@@ -19,12 +20,12 @@ use std::alloc::Global;
 pub fn read_items(alloc: Global, text: &[u8]) -> Result<Items, ItemFault>
     ensures found { IfOk result (λ items. IsItemText text.now items) }
     ensures only { (items : List Item) → IsItemText text.now items
-        → IsUnlessNoMemory result (Ok items) }
+        → IsUnless NoMemory result (Ok items) }
 
     // The refusals: want of memory comes freely, and the place exactly.
     ensures refused { IfErr result (IsDue text.now) }
     ensures refused_only { (octets : ℕ) → IsRefusedAt IsItemText text.now octets
-        → IsUnlessNoMemory result (Err (At (told_place octets))) }
+        → IsUnless NoMemory result (Err (At (told_number octets))) }
 {
     let mut items = Vec::new(alloc);
     let mut at = 0;
@@ -73,7 +74,7 @@ fn named(alloc: Global, name: &[u8]) -> Result<Item, ItemFault>
 }
 
 fn refused_at(octets: usize) -> ItemFault
-    ensures { result ≡ At (told_place octets) }
+    ensures { result ≡ At (told_number octets) }
 {
     ItemFault::At {
         place: octets.min(u32::MAX as usize) as u32,

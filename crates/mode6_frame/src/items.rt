@@ -1,6 +1,6 @@
 ghost use Rattle.std.specs.Prelude.{◌≡◌, ◌<◌, length, slice_index_or};
 
-use crate::text::Text;
+use edge_traits::Text;
 use std::alloc::{AllocError, AllocFailed};
 use std::marker::Model;
 

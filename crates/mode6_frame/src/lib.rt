@@ -17,9 +17,9 @@ pub mod reading;
 pub mod selections;
 pub mod sources;
 pub mod status;
-pub mod text;
 pub mod writing;
 
+pub use edge_traits::Text;
 pub use errors::{
     BAD_ASSOCIATION, BAD_AUTHENTICATION, BAD_FORMAT, BAD_NAME, BAD_OPERATION, BAD_VALUE, PROHIBITED,
 };
@@ -51,5 +51,4 @@ pub use status::{
     PeerStatus, SystemStatus, error_code, error_status_word, peer_status_word, read_peer_status,
     read_system_status, system_status_word,
 };
-pub use text::Text;
 pub use writing::{error_gram, write};

@@ -1,8 +1,9 @@
 use Rattle.std.proofs.Common.{◌<◌, length, Ok, Err, [], ap, sym, subst, ◌∙◌, inl, refl, arith}
 use Rattle.refusals.specs.Refusals.{one_place, refused_nowhere}
+use Rattle.refusals.specs.Told.{told_number}
 use Rattle.refusals.specs.Machines.{one_meaning}
 use Rattle.mode6_frame.specs.declared.items.ItemFault.TheVariants.{At}
-use Rattle.mode6_frame.specs.Items.{IsItemText, IsDue, told_place}
+use Rattle.mode6_frame.specs.Items.{IsItemText, IsDue}
 use Rattle.mode6_frame.specs.ItemReader.{item_reader, Between}
 use Rattle.mode6_frame.proofs.ItemLemmas.{reads_items}
 use Rattle.mode6_frame.proofs.ItemTextLemmas.{IsItemText-slot, IsRefusedAt-slot, IsClosedAt-comma}
@@ -35,7 +36,7 @@ returns-then-text-end-ne44-clause-refused c =
 pub returns-then-text-end-ne44-clause-refused_only : goal.returns-then-text-end-ne44-clause-refused_only
 returns-then-text-end-ne44-clause-refused_only c octets refused =
     let here = IsRefusedAt-slot _ _ _ _ _ c.slots.invariant.led c.in_ok-end.ensures.read (omega (arith, c.in_ok-end.ensures.read.within)) c.if-text-end-ne44.true in
-    inl (ap Err (c.refused_at.ensures ∙ ap (λ n. At (told_place n)) (one_place IsItemText c.args.text.now c.in_ok-end.end octets here refused)))
+    inl (ap Err (c.refused_at.ensures ∙ ap (λ n. At (told_number n)) (one_place IsItemText c.args.text.now c.in_ok-end.end octets here refused)))
 
 pub slots-preserved : goal.slots-preserved
 slots-preserved c =
