@@ -3,10 +3,10 @@ use Rattle.std.proofs.Common.{◌≡◌, ℕ, ◌+◌, Bool, true, false, cond, 
 use Rattle.std.specs.Prelude.{◌==◌, not, nat_lt, ◌||◌, option_map, IsOkUnless, MatchOption}
 use Rattle.std.specs.List.{list_any, position_or_len}
 use Rattle.std.proofs.lemmas.Bool.Decides.{nat_tests}
+use Rattle.mode6_frame.specs.declared.errors.TheConstants.{BAD_ASSOCIATION, BAD_NAME}
 use Rattle.mode6_frame.specs.declared.items.Item.{Item}
 use Rattle.mode6_frame.specs.declared.message.Head.{Head}
 use Rattle.mode6_frame.specs.Items.{told_place}
-use Rattle.sys_vars.specs.declared.answering.TheConstants.{BAD_ASSOCIATION, BAD_NAME}
 use Rattle.sys_vars.specs.declared.published.Record.{Record}
 use Rattle.sys_vars.specs.declared.variables.VarsFault.{VarsFault}
 use Rattle.sys_vars.specs.declared.variables.VarsFault.TheVariants.{UnknownAssociation, UnknownName, NoMemory}

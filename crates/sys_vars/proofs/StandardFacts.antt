@@ -1,6 +1,6 @@
 -- Worked values: the constants, what a server that opens publishes of itself, status words of peers, texts of reference
 -- identifiers, and datagrams that answer (RFC 9327, sections 2, 3.1, 3.2, 3.4 and 4; RFC 5905, section 7.3).
-use Rattle.std.proofs.Common.{◌≡◌, ◌+◌, ◌-◌, ◌<◌, ◌≤◌, ℕ, Bool, true, false, pos, replicate, lit≤, lit<, [], ◌∷◌, Some, None, refl}
+use Rattle.std.proofs.Common.{◌≡◌, ◌+◌, ◌-◌, ◌<◌, ◌≤◌, ℕ, Bool, true, false, pos, negsuc, replicate, lit≤, lit<, [], ◌∷◌, Some, None, refl}
 use Rattle.std.specs.Prelude.{codes}
 use Rattle.std.specs.Fmt.{digits}
 use Rattle.hex.specs.Hex.{encode_with}
@@ -13,11 +13,15 @@ use Rattle.sys_vars.specs.declared.asked.TheConstants.{MAX_NAMES}
 use Rattle.sys_vars.specs.declared.names.TheConstants.{LEAP, STRATUM, REFID, UNKNOWN_NAME}
 use Rattle.sys_vars.specs.declared.peer_view.PeerView.{PeerView}
 use Rattle.sys_vars.specs.declared.peer_views.TheConstants.{MAX_PEERS}
+use Rattle.sys_vars.specs.declared.system.TheConstants.{PRECISION}
 use Rattle.sys_vars.specs.declared.published.Record.{Record}
 use Rattle.sys_vars.specs.Opening.{opening_system, opening_record}
 use Rattle.sys_vars.specs.Status.{peer_status_of, system_status_of}
 use Rattle.sys_vars.specs.Variables.{refid_text, variable_of, variables_of, vars_fault_of}
 use Rattle.sys_vars.specs.Answers.{plain_text, vars_gram, text_gram}
+
+PRECISION-is : PRECISION ≡ negsuc 19
+PRECISION-is = refl
 
 MAX_PEERS-is : MAX_PEERS ≡ 32
 MAX_PEERS-is = refl

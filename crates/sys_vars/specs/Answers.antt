@@ -4,13 +4,13 @@ use Rattle.std.specs.List.{AllByRecursion, list_any, join_by}
 use Rattle.access_rules.specs.declared.flags.TheConstants.{IGNORE, NOQUERY}
 use Rattle.access_rules.specs.Flags.{has_flag}
 use Rattle.access_rules.specs.Rules.{flags_of}
+use Rattle.mode6_frame.specs.declared.errors.TheConstants.{BAD_FORMAT, BAD_ASSOCIATION, BAD_NAME}
 use Rattle.mode6_frame.specs.declared.items.Item.{Item}
 use Rattle.mode6_frame.specs.declared.message.Head.{Head}
 use Rattle.mode6_frame.specs.declared.message.TheConstants.{HEAD_LEN, MAX_BODY}
 use Rattle.mode6_frame.specs.Frames.{FrameParts, spelled_frame, error_parts}
 use Rattle.sys_vars.specs.declared.answer.Answer.{Answer}
 use Rattle.sys_vars.specs.declared.answer.Answer.TheVariants.{Ignored, Given}
-use Rattle.sys_vars.specs.declared.answering.TheConstants.{BAD_FORMAT, BAD_ASSOCIATION, BAD_NAME}
 use Rattle.sys_vars.specs.declared.asked.Asked.{Asked}
 use Rattle.sys_vars.specs.declared.asked.What.{What}
 use Rattle.sys_vars.specs.declared.asked.What.TheVariants.{Vars, Bad}

@@ -1,22 +1,28 @@
 -- What a server publishes before it knows the time: our own rule, after RFC 5905, sections 7.3 and 11.1.
-use Rattle.std.specs.Prelude.{◌≡◌, ◌*◌, ◌^◌, List, [], codes, pos, negsuc}
+use Rattle.std.specs.Prelude.{◌≡◌, List, [], codes, pos}
 use Rattle.std.proofs.Common.{lit≤}
 use Rattle.access_rules.specs.Rates.{plain_rate}
 use Rattle.access_rules.specs.Rules.{IsPlain}
 use Rattle.access_rules.specs.declared.rules.Rule.{Rule}
 use Rattle.fixed_time.specs.declared.time.Ntp64.{Ntp64}
+use Rattle.fixed_time.specs.declared.time.TheConstants.{MAX_DISPERSION}
+use Rattle.mode6_frame.specs.declared.events.TheConstants.{NO_DRIFT_FILE}
+use Rattle.mode6_frame.specs.declared.sources.TheConstants.{NO_SOURCE}
+use Rattle.ntp_packet.specs.declared.leap_version_mode.TheConstants.{LEAP_UNSYNCHRONIZED}
+use Rattle.ntp_packet.specs.declared.packet.TheConstants.{UNSYNCHRONIZED_STRATUM}
 use Rattle.discipline.specs.declared.state.State.TheVariants.{Nset}
 use Rattle.sys_vars.specs.declared.published.Record.{Record}
 use Rattle.sys_vars.specs.declared.system.System.{System}
+use Rattle.sys_vars.specs.declared.system.TheConstants.{PRECISION}
 
 -- the system of a server that knows no time yet: not synchronized, with a dispersion of 16 seconds
 abbrev pub opening_system : System
 opening_system = record {
-  leap = 3;
-  stratum = 16;
-  precision = negsuc 19;
+  leap = LEAP_UNSYNCHRONIZED;
+  stratum = UNSYNCHRONIZED_STRATUM;
+  precision = PRECISION;
   root_delay = 0;
-  root_disp = 16 * 2 ^ 32;
+  root_disp = MAX_DISPERSION;
   refid = codes "INIT";
   reference = record { 0 = 0 };
   at = 0;
@@ -26,9 +32,9 @@ opening_system = record {
   freq = pos 0;
   jitter = 0;
   state = Nset;
-  source = 0;
+  source = NO_SOURCE;
   events = 1;
-  code = 1;
+  code = NO_DRIFT_FILE;
   leap_in = lit≤ tt;
   source_in = lit≤ tt;
   events_in = lit≤ tt;

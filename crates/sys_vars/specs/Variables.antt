@@ -7,6 +7,7 @@ use Rattle.std.specs.Net.Text.{ipv4_text}
 use Rattle.hex.specs.Hex.{encode_lower}
 use Rattle.mode6_frame.specs.declared.items.Item.{Item}
 use Rattle.mode6_frame.specs.Items.{told_place}
+use Rattle.ntp_packet.specs.declared.packet.TheConstants.{MAX_SYNCHRONIZED_STRATUM}
 use Rattle.sys_vars.specs.declared.names.TheConstants.{LEAP, STRATUM, REFID}
 use Rattle.sys_vars.specs.declared.system.System.{System}
 use Rattle.sys_vars.specs.declared.variables.VarsFault.{VarsFault}
@@ -25,7 +26,7 @@ is_code octets = nat_lt 0 (length (before_zero octets)) && list_all is_ascii_alp
 -- decimal; else it is a code, or what is no code in hexadecimal digits: our own rule for the latter.
 unfoldable pub refid_text : ℕ → List ℕ → List ℕ
 refid_text stratum refid =
-    if is_in_range 2 15 stratum then ipv4_text refid
+    if is_in_range 2 MAX_SYNCHRONIZED_STRATUM stratum then ipv4_text refid
     else (if is_code refid then before_zero refid
     else codes "0x" ++ encode_lower refid)
 

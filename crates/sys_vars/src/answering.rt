@@ -10,20 +10,11 @@ use crate::status::system_status;
 use crate::variables::{VarsFault, items};
 use access_rules::{IGNORE, NOQUERY, flags_for, has_flag};
 use edge_traits::{Grams, Octets};
-use mode6_frame::{Frame, HEAD_LEN, Head, Item, Items, MAX_BODY, error_gram, write};
+use mode6_frame::{
+    BAD_ASSOCIATION, BAD_FORMAT, BAD_NAME, Frame, HEAD_LEN, Head, Item, Items, MAX_BODY,
+    error_gram, write,
+};
 use std::alloc::{AllocError, Global};
-
-/// The error code of a bad format or length (RFC 9327, section 3.4).
-pub const BAD_FORMAT: u8 = 2;
-
-/// The error code of an operation that is not served.
-pub const BAD_OPERATION: u8 = 3;
-
-/// The error code of an unknown association identifier.
-pub const BAD_ASSOCIATION: u8 = 4;
-
-/// The error code of an unknown variable name.
-pub const BAD_NAME: u8 = 5;
 
 /// The answer to a control request, made of one record (RFC 9327, sections 2 and 4).
 ///

@@ -1,7 +1,7 @@
 //! What a server publishes of itself: the system's values, those of its peers and its clock, as one
 //! record; and its answers to control requests for system variables (RFC 9327).
 //!
-//! Layer 4. Stands on: `access_rules`, `clock_filter`, `discipline`, `mode6_frame`, `edge_traits`, `net_addr`, `fixed_time`.
+//! Layer 4. Stands on: `access_rules`, `clock_filter`, `discipline`, `mode6_frame`, `ntp_packet`, `edge_traits`, `net_addr`, `fixed_time`.
 //! Promises: a server opens with one record, given by its values; an answer is a function of one
 //! record and the request, and comes unless memory is wanting.
 #![tactic(auto)]
@@ -20,7 +20,6 @@ pub mod system;
 pub mod variables;
 
 pub use answer::Answer;
-pub use answering::{BAD_ASSOCIATION, BAD_FORMAT, BAD_NAME, BAD_OPERATION};
 pub use asked::{Asked, MAX_NAMES, NameNumbers, What};
 pub use context::Context;
 pub use names::{UNKNOWN_NAME, name_number};
@@ -28,5 +27,5 @@ pub use peer_view::PeerView;
 pub use peer_views::{MAX_PEERS, PeerViews};
 pub use published::Record;
 pub use status::{peer_status, system_status};
-pub use system::System;
+pub use system::{PRECISION, System};
 pub use variables::{VarsFault, items};

@@ -2,10 +2,12 @@ ghost use Rattle.std.specs.Prelude.{◌≡◌, IfOk};
 ghost use Rattle.sys_vars.specs.Opening.{IsOpening, opening_system};
 
 use crate::peer_views::PeerViews;
-use crate::system::System;
+use crate::system::{PRECISION, System};
 use access_rules::{Rate, Rules};
 use discipline::{SoftClock, State};
 use fixed_time::{MAX_DISPERSION, Ntp64, Span};
+use mode6_frame::{NO_DRIFT_FILE, NO_SOURCE};
+use ntp_packet::{LEAP_UNSYNCHRONIZED, UNSYNCHRONIZED_STRATUM};
 use std::alloc::{AllocError, Global};
 
 /// What a server publishes: the values of the system, of its peers and of its clock, of one moment,
@@ -49,6 +51,18 @@ impl Record {
         })
     }
 
+    /// Makes this record equal to another. Takes no memory.
+    pub fn assign(&mut self, from: &Record)
+        ensures { self.new ≡ from.now }
+    {
+        self.epoch = from.epoch;
+        self.system = from.system;
+        self.peers.assign(&from.peers);
+        self.rules.assign(&from.rules);
+        self.rate = from.rate;
+        self.clock = from.clock;
+    }
+
     /// The same record once more.
     pub fn copy(&self) -> Result<Record, AllocError>
         ensures { IfOk result (λ rec. rec ≡ self.now) }
@@ -71,9 +85,9 @@ fn opening_system() -> System
     ensures { result ≡ opening_system }
 {
     System {
-        leap: 3,
-        stratum: 16,
-        precision: -20,
+        leap: LEAP_UNSYNCHRONIZED,
+        stratum: UNSYNCHRONIZED_STRATUM,
+        precision: PRECISION,
         root_delay: 0,
         root_disp: MAX_DISPERSION,
         refid: *b"INIT",
@@ -85,9 +99,9 @@ fn opening_system() -> System
         freq: 0,
         jitter: 0,
         state: State::Nset,
-        source: 0,
+        source: NO_SOURCE,
         events: 1,
-        code: 1,
+        code: NO_DRIFT_FILE,
     }
 }
 
@@ -109,6 +123,10 @@ mod tests {
             .rules
             .add(&prefix_of(&Ip::V4([10, 0, 0, 0]), 8), IGNORE)?;
         let copy = record.copy()?;
+        let mut other = Record::opening(rt.alloc(), Ntp64(0))?;
+        other.assign(&copy);
+        assert_eq!(rt; (other.epoch, other.system.stratum), (3, 2));
+        assert_eq!(rt; (other.peers.len(), other.rules.len()), (1, 3));
         assert_eq!(rt; copy.epoch, 3);
         assert_eq!(rt; copy.system, record.system);
         assert_eq!(rt; copy.peers.len(), 1);

@@ -7,6 +7,7 @@ ghost use Rattle.sys_vars.specs.Variables.{before_zero, is_code, refid_text};
 
 use itoa::Buffer;
 use mode6_frame::Text;
+use ntp_packet::MAX_SYNCHRONIZED_STRATUM;
 use std::alloc::{AllocError, Global};
 
 /// The text of a reference identifier (RFC 5905, section 7.3).
@@ -17,7 +18,7 @@ use std::alloc::{AllocError, Global};
 pub fn refid_text(alloc: Global, stratum: u8, refid: &[u8; 4]) -> Result<Text, AllocError>
     ensures { IfOk result (λ text. text ≡ refid_text stratum refid.now) }
 {
-    if (2..=15).contains(&stratum) {
+    if (2..=MAX_SYNCHRONIZED_STRATUM).contains(&stratum) {
         dotted(alloc, refid)
     } else if is_code(refid) {
         code(alloc, refid)

@@ -1,56 +1,38 @@
-ghost use Rattle.std.specs.Prelude.{◌≡◌, ◌+◌, ◌*◌, ◌^◌, ◌≤◌};
-ghost use Rattle.sys_vars.specs.Status.{bit_where, peer_status_of, system_status_of};
+ghost use Rattle.std.specs.Prelude.{◌≡◌};
+ghost use Rattle.sys_vars.specs.Status.{peer_status_of, system_status_of};
 
 use crate::peer_view::PeerView;
 use crate::system::System;
+use mode6_frame::{PeerStatus, SystemStatus, peer_status_word, system_status_word};
 
-/// The system status word (RFC 9327, section 3.1): of 16 bits, the leap indicator has 2, the clock
-/// source 6, the event counter 4 and the event code 4.
-pub fn system_status(s: &System) -> u16
-    ensures { result ≡ system_status_of s.now }
+/// The system status word (RFC 9327, section 3.1): the leap indicator, the clock source, the event
+/// counter and the event code.
+pub fn system_status(system: &System) -> u16
+    ensures { result ≡ system_status_of system.now }
 {
-    status_word(s.leap, s.source, s.events, s.code)
+    system_status_word(&SystemStatus {
+        leap: system.leap,
+        source: system.source,
+        events: system.events,
+        code: system.code,
+    })
 }
 
-fn status_word(leap: u8, source: u8, events: u8, code: u8) -> u16
-    requires leap { leap ≤ 3 }
-    requires source { source ≤ 63 }
-    requires events { events ≤ 15 }
-    requires code { code ≤ 15 }
-    ensures { result ≡ leap * 2 ^ 14 + source * 2 ^ 8 + events * 2 ^ 4 + code }
+/// The peer status word (RFC 9327, section 3.2): what is known of the peer, the selection code, the
+/// event counter and the event code.
+pub fn peer_status(peer: &PeerView) -> u16
+    ensures { result ≡ peer_status_of peer.now }
 {
-    u16::from(leap) * (1 << 14)
-        + u16::from(source) * (1 << 8)
-        + u16::from(events) * (1 << 4)
-        + u16::from(code)
-}
-
-/// The peer status word (RFC 9327, section 3.2): of 16 bits, the status has 5, the selection 3, the
-/// event counter 4 and the event code 4.
-pub fn peer_status(p: &PeerView) -> u16
-    ensures { result ≡ peer_status_of p.now }
-{
-    (1 << 15)
-        + bit_where(p.key != 0, 14)
-        + bit_where(p.auth_ok, 13)
-        + bit_where(p.reach != 0, 12)
-        + low_bits(p.selection, p.events, p.code)
-}
-
-fn bit_where(is_set: bool, bit: u8) -> u16
-    requires { bit ≤ 15 }
-    ensures { result ≡ bit_where is_set bit }
-{
-    if is_set { 1 << bit } else { 0 }
-}
-
-fn low_bits(selection: u8, events: u8, code: u8) -> u16
-    requires selection { selection ≤ 7 }
-    requires events { events ≤ 15 }
-    requires code { code ≤ 15 }
-    ensures { result ≡ selection * 2 ^ 8 + events * 2 ^ 4 + code }
-{
-    u16::from(selection) * (1 << 8) + u16::from(events) * (1 << 4) + u16::from(code)
+    peer_status_word(&PeerStatus {
+        configured: true,
+        keyed: peer.key != 0,
+        authentic: peer.auth_ok,
+        reachable: peer.reach != 0,
+        broadcast: false,
+        selection: peer.selection,
+        events: peer.events,
+        code: peer.code,
+    })
 }
 
 #[cfg(test)]

@@ -3,6 +3,9 @@ ghost use Rattle.std.specs.Prelude.{◌≤◌};
 use discipline::State;
 use fixed_time::{Ntp64, Span};
 
+/// The precision of our clock, in log2 seconds: about a microsecond (our own rule).
+pub const PRECISION: i8 = -20;
+
 /// The values of the system (RFC 5905, section 11.1), as they are published.
 #[derive(Clone, Copy, Debug, PartialEq, Eq)]
 pub struct System {
