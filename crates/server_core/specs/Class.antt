@@ -14,6 +14,7 @@ use Rattle.ntp_trailer.specs.Trailers.{HasTrailer, IsRefused}
 use Rattle.ntp_trailer.specs.Authentic.{IsAuth}
 use Rattle.mode6_frame.specs.declared.message.FrameFault.{FrameFault}
 use Rattle.mode6_frame.specs.Frames.{FrameParts, IsFrame, frame_fault_of}
+use Rattle.sys_vars.specs.declared.context.Context.{Context}
 use Rattle.server_core.specs.declared.class.TheConstants.{MODE_CLIENT, MODE_CONTROL}
 use Rattle.server_core.specs.declared.class.Ask.{Ask}
 use Rattle.server_core.specs.declared.class.Class.{Class}
@@ -74,8 +75,8 @@ IsUnheard octets (Unserved mode) =
     (octets ≢ []) × (mode ≡ mode_of octets) × (mode ≢ MODE_CLIENT) × (mode ≢ MODE_CONTROL)
 IsUnheard octets NotRequest = (f : FrameParts) × IsFrame octets f × (has_answer_bit f ≡ true)
 
--- what a datagram from this address asks for, where these keys are known
-abbrev pub IsClass : List ℕ → Addr → List Key → Class → Type 0
-IsClass octets from keys (Silent why) = IsUnheard octets why
-IsClass octets from keys (Time ask) = IsTimeRequest octets from keys ask
-IsClass octets from keys (Look asked) = IsLook octets from asked
+-- what a datagram from this address that came in this context asks for, where these keys are known
+abbrev pub IsClass : List ℕ → Addr → List Key → Context → Class → Type 0
+IsClass octets from keys context (Silent why) = IsUnheard octets why
+IsClass octets from keys context (Time ask) = IsTimeRequest octets from keys ask
+IsClass octets from keys context (Look asked) = IsLook octets from asked

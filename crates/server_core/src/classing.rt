@@ -1,5 +1,6 @@
 ghost use Rattle.std.specs.Prelude.{◌≡◌, ◌≢◌, ◌≤◌, ◌<◌, length, [], IfOk, IfErr};
 ghost use Rattle.ntp_packet.specs.Packet.{IsPacket, mode_of};
+ghost use Rattle.sys_vars.specs.declared.context.Context.{Context};
 ghost use Rattle.server_core.specs.declared.class.Class.{Class};
 ghost use Rattle.server_core.specs.Class.{IsClass, IsAskOf, packet_number, trailer_number};
 ghost use Rattle.server_core.specs.Control.{IsReadRequest};
@@ -11,17 +12,19 @@ use net_addr::Addr;
 use ntp_packet::{Header, PacketFault};
 use ntp_trailer::{TrailerFault, auth, split};
 use std::alloc::{AllocError, Global};
+use sys_vars::Context;
 
-/// What a datagram from this address asks for, where these keys are known. Memory is taken for a
-/// request to read variables alone.
+/// What a datagram from this address that came in this context asks for, where these keys are known.
+/// Memory is taken for a request to read variables alone.
 pub fn classify(
     alloc: Global,
     bytes: &[u8],
     from: &Addr,
     keys: &KeyTable,
+    context: &Context,
 ) -> Result<Class, AllocError>
-    ensures found { IfOk result (λ class. IsClass bytes.now from.now keys.now class) }
-    ensures only { (class : Class) → IsClass bytes.now from.now keys.now class
+    ensures found { IfOk result (λ class. IsClass bytes.now from.now keys.now context.now class) }
+    ensures only { (class : Class) → IsClass bytes.now from.now keys.now context.now class
         → IfOk result (λ it. it ≡ class) }
     ensures no_memory { IfErr result (λ _. IsReadRequest bytes.now) }
 {
@@ -47,8 +50,9 @@ fn mode_in(bytes: &[u8]) -> u8
 fn classify_client(bytes: &[u8], from: &Addr, keys: &KeyTable) -> Class
     requires some { bytes.now ≢ [] }
     requires mode { mode_of bytes.now ≡ MODE_CLIENT }
-    ensures found { IsClass bytes.now from.now keys.now result }
-    ensures only { (class : Class) → IsClass bytes.now from.now keys.now class → result ≡ class }
+    ensures found { (context : Context) → IsClass bytes.now from.now keys.now context result }
+    ensures only { (context : Context) → (class : Class)
+        → IsClass bytes.now from.now keys.now context class → result ≡ class }
 {
     match ntp_packet::read(bytes) {
         Err(fault) => Class::Silent(Unheard::Packet(packet_number(fault))),

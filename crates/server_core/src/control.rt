@@ -4,6 +4,7 @@ ghost use Rattle.mode6_frame.specs.declared.items.Item.{Item};
 ghost use Rattle.mode6_frame.specs.Frames.{parts_of, FitsFrame, mode_of};
 ghost use Rattle.sys_vars.specs.declared.asked.Asked.{Asked};
 ghost use Rattle.sys_vars.specs.declared.asked.What.{What};
+ghost use Rattle.sys_vars.specs.declared.context.Context.{Context};
 ghost use Rattle.sys_vars.specs.declared.asked.TheConstants.{MAX_NAMES};
 ghost use Rattle.server_core.specs.declared.class.TheConstants.{MODE_CONTROL};
 ghost use Rattle.server_core.specs.declared.class.Class.{Class};
@@ -26,10 +27,10 @@ pub(crate) fn classify_control(
     from: &Addr,
 ) -> Result<Class, AllocError>
     requires mode { mode_of bytes.now ≡ MODE_CONTROL }
-    ensures found { (keys : List Key)
-        → IfOk result (λ class. IsClass bytes.now from.now keys class) }
-    ensures only { (keys : List Key) → (class : Class) → IsClass bytes.now from.now keys class
-        → IfOk result (λ it. it ≡ class) }
+    ensures found { (keys : List Key) → (context : Context)
+        → IfOk result (λ class. IsClass bytes.now from.now keys context class) }
+    ensures only { (keys : List Key) → (context : Context) → (class : Class)
+        → IsClass bytes.now from.now keys context class → IfOk result (λ it. it ≡ class) }
     ensures no_memory { IfErr result (λ _. IsReadRequest bytes.now) }
 {
     match mode6_frame::read(bytes) {

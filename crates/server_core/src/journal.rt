@@ -137,7 +137,7 @@ fn record_of(op: Op, before: Record) -> Record
     ensures { result ≡ record_of op before }
 {
     match op {
-        Op::Publish(record) => record,
+        Op::Publish(boxed) => Box::into_inner(boxed),
         Op::Arrive(..) | Op::Look(..) | Op::Sweep(_) | Op::Stop(_) => before,
     }
 }
@@ -147,7 +147,7 @@ fn record_in<'a>(op: &'a Op, before: &'a Record) -> &'a Record
     ensures { result.now ≡ record_of op.now before.now }
 {
     match op {
-        Op::Publish(record) => record,
+        Op::Publish(boxed) => boxed,
         Op::Arrive(..) | Op::Look(..) | Op::Sweep(_) | Op::Stop(_) => before,
     }
 }

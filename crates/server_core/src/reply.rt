@@ -37,9 +37,27 @@ pub fn time_reply(basis: &Basis, ask: &Ask, keys: &KeyTable, came: u64, sent: u6
     ensures shown { Shows keys.now ask.now.auth result }
 {
     let mut reply = Octets::new();
-    reply.put(&ntp_packet::write(&header_of(basis, ask, came, sent)));
-    end(&mut reply, ask.auth, keys);
+    time_reply_into(basis, ask, keys, came, sent, &mut reply);
     reply
+}
+
+/// Puts that reply into octets that are lent, in place of what they have.
+pub fn time_reply_into(
+    basis: &Basis,
+    ask: &Ask,
+    keys: &KeyTable,
+    came: u64,
+    sent: u64,
+    into: &mut Octets,
+)
+    requires key { HasKey keys.now ask.now.auth }
+    ensures value { into.new ≡ time_reply_of basis.now ask.now keys.now came sent }
+    ensures len { IsReplyLength ask.now.auth (length into.new) }
+    ensures shown { Shows keys.now ask.now.auth into.new }
+{
+    into.clear();
+    into.put(&ntp_packet::write(&header_of(basis, ask, came, sent)));
+    end(into, ask.auth, keys);
 }
 
 /// Appends what follows the header of a reply.

@@ -219,7 +219,7 @@ fn what_is_published_is_answered_from_there_on(rt: HostRuntime) -> Result<(), Fa
     );
     let mut next = restricted(rt.alloc(), Ip::V4([10, 0, 0, 2]), 32, NOQUERY)?;
     next.epoch = 5;
-    assert!(rt; matches!(book.step(Op::Publish(next)), Ok(Reply::Published)));
+    assert!(rt; matches!(book.step(Op::Publish(Box::new(rt.alloc(), next)?)), Ok(Reply::Published)));
     assert_eq!(rt; book.epoch(), 5);
     assert_eq!(rt;
         epoch_of(book.step(stratum(rt.alloc(), [10, 0, 0, 1])?)),
@@ -274,11 +274,11 @@ fn the_last_stamp_and_the_last_publication_are_refused_once_reached(
     let late = book.step(Op::Arrive(ask([10, 0, 0, 1]), 0));
     assert_eq!(rt; late.err(), Some(StepFault::ClockEnd));
     for _ in 0..MAX_PUBLICATIONS {
-        book.step(Op::Publish(Record::opening(rt.alloc(), UNIX)?))
+        book.step(Op::Publish(Box::new(rt.alloc(), Record::opening(rt.alloc(), UNIX)?)?))
             .err();
     }
     let full = Some(StepFault::Full(Why::Publications));
-    let one_more = book.step(Op::Publish(Record::opening(rt.alloc(), UNIX)?));
+    let one_more = book.step(Op::Publish(Box::new(rt.alloc(), Record::opening(rt.alloc(), UNIX)?)?));
     assert_eq!(rt; one_more.err(), full);
     assert!(rt; book.step(Op::Sweep(0)).is_ok());
     assert_eq!(rt; book.journal().len(), MAX_PUBLICATIONS + 2);
