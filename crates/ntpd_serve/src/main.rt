@@ -6,12 +6,11 @@
 #![tactic(auto)]
 
 mod command;
-mod due;
 mod ending;
-mod giving;
 mod laws;
 mod once;
 mod report;
+mod sending;
 #[cfg(test)]
 mod tests;
 mod usage;

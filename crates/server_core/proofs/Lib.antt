@@ -8,3 +8,4 @@ pub mod ShownLemmas
 mod StandardFacts
 pub mod StateLemmas
 pub mod VerdictLemmas
+mod WorkedFacts

@@ -1,6 +1,6 @@
-ghost use Rattle.std.specs.Prelude.{◌≡◌, ◌<◌, ◌≤◌, ◌+◌, ◌-◌, ◌++◌, ◌∷◌, List, length, slice_get, None, Some, false};
+ghost use Rattle.std.specs.Prelude.{◌≡◌, ◌<◌, ◌≤◌, ◌+◌, ◌++◌, ◌∷◌, List, length, slice_get, None, Some, false};
 ghost use Rattle.server_core.specs.declared.op.Op.{Op};
-ghost use Rattle.server_core.specs.Histories.{Place, IsLegalAt, published_by, reply_at, state_after_all};
+ghost use Rattle.server_core.specs.Histories.{Place, IsLegalAt, published_by, records_in, reply_at, state_after_all};
 ghost use Rattle.server_core.specs.Journals.{published_in};
 ghost use Rattle.server_core.specs.States.{ServerState, refusal_of, reply_to, stamp_after, state_after};
 ghost use Rattle.server_core.specs.Verdicts.{is_ignored};
@@ -48,6 +48,6 @@ pub fn replies_stand_at_their_places(op: &Op)
 /// What is published is the last of the records that were.
 pub fn the_last_record_is_published(opening: &Record)
     ghost ops: { List Op }
-    ensures { slice_get (published_by opening.now ops) (length (published_by opening.now ops) - 1)
+    ensures { slice_get (published_by opening.now ops) (length (records_in ops))
         ≡ Some (published_in opening.now ops) }
 {}

@@ -1,4 +1,4 @@
-ghost use Rattle.std.specs.Prelude.{◌≡◌, Some, if◌then◌else◌};
+ghost use Rattle.std.specs.Prelude.{◌≡◌, Some, IsSome, if◌then◌else◌};
 ghost use Rattle.server_core.specs.Verdicts.{basis_of, is_denied, is_due, is_good, is_over_rate, is_to_be_told, rate_verdict};
 
 use crate::class::Ask;
@@ -25,10 +25,11 @@ pub enum Verdict {
 }
 
 /// The verdict on a request of a client with these flags that drew this stamp. The row is the
-/// client's after it, None where the client is not listed.
+/// client's after it, None where the client is not listed or its rate is not limited.
 pub(crate) fn judge(rec: &Record, flags: u16, ask: &Ask, stamp: u64, row: Option<Row>) -> Verdict
-    ensures { result ≡ (if is_denied flags ask.now then Verdict.Ignored
+    ensures value { result ≡ (if is_denied flags ask.now then Verdict.Ignored
         else rate_verdict rec.now flags stamp row) }
+    ensures told { result ≡ Verdict.Rate → IsSome row }
 {
     if is_denied(flags, ask) {
         return Verdict::Ignored;

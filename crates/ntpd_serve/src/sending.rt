@@ -1,72 +1,65 @@
 ghost use Rattle.std.specs.Prelude.{◌≡◌, ◌≤◌, ℕ, List, length};
+ghost use Rattle.edge_traits.specs.Ports.{IsPortKept};
 ghost use Rattle.edge_traits.specs.Told.{gained, Grows};
 ghost use Rattle.edge_traits.specs.declared.port.Event.{Event};
-ghost use Rattle.ntpd_serve.specs.Due.{IsGivable};
-ghost use Rattle.ntpd_serve.specs.Once.{Causes, GivesDue, GivesOne};
+ghost use Rattle.server_core.specs.Responses.{IsGivable};
+ghost use Rattle.ntpd_serve.specs.Once.{Causes, GivesOne, GivesResponse};
 
-use crate::due::Due;
-use crate::ending::Ending;
+use crate::ending::{Ending, Failure};
 use edge_traits::{Clock, Octets, Port, PortFault};
 use mac_keys::KeyTable;
 use net_addr::Addr;
-use server_core::{rate_reply, time_reply};
+use server_core::{Response, rate_reply, time_reply};
 
-/// Gives what a datagram is due that came at this moment, or nothing. The clock is read where
-/// anything is given.
-pub fn give_due<P: Port, C: Clock>(
+/// Gives the response to what came at this moment. The clock is read where anything is given.
+pub fn send_response<P: Port, C: Clock>(
     port: &mut P,
     clock: &mut C,
     keys: &KeyTable,
     came: u64,
-    due: &Due,
+    response: &Response,
     to: &Addr,
 ) -> Ending
     requires most { 1024 ≤ P.most port.old }
-    requires givable { IsGivable keys.now due.now }
+    requires givable { IsGivable keys.now response.now }
     ensures gives { (events : List Event) × (readings : List ℕ)
-        × GivesDue keys.now came due.now result to.now events readings
+        × GivesResponse keys.now came response.now result to.now events readings
         × (P.trace port.new ≡ gained (P.trace port.old) events)
         × Grows (C.readings clock.old) (C.readings clock.new) readings }
     ensures causes { Causes result (P.faults port.old) (P.faults port.new)
         (P.quiets port.old) (P.quiets port.new) (P.is_closed port.new) }
-    ensures faults_kept { P.faults port.old ≤ P.faults port.new }
-    ensures quiets_kept { P.quiets port.old ≤ P.quiets port.new }
-    ensures address_kept { P.address port.new ≡ P.address port.old }
+    ensures kept { IsPortKept P.faults P.quiets P.address P.most port.old port.new }
 {
-    match due {
-        Due::Unheard(why) => Ending::Silent(*why),
-        Due::Ignored => Ending::Ignored,
-        Due::Limited => Ending::Limited,
-        Due::Time(ask, basis) => {
+    match response {
+        Response::Silent(why) => Ending::Silent(*why),
+        Response::Time(ask, basis) => {
             let sent = clock.now();
-            give(port, to, &time_reply(basis, ask, keys, came, sent))
+            send(port, to, &time_reply(basis, ask, keys, came, sent))
         }
-        Due::Rate(ask) => {
+        Response::Rate(ask) => {
             let _sent = clock.now();
-            give(port, to, &rate_reply(ask))
+            send(port, to, &rate_reply(ask))
         }
-        Due::Grams(grams) => {
+        Response::Grams(grams) => {
             let _sent = clock.now();
-            give(port, to, grams.get(0))
+            send(port, to, grams.get(0))
         }
     }
 }
 
-/// Gives an answer of one datagram.
-fn give<P: Port>(port: &mut P, to: &Addr, datagram: &Octets) -> Ending
+/// Gives one datagram.
+fn send<P: Port>(port: &mut P, to: &Addr, datagram: &Octets) -> Ending
     requires most { length datagram.now ≤ P.most port.old }
     ensures given { (events : List Event) × GivesOne result to.now datagram.now events
         × (P.trace port.new ≡ gained (P.trace port.old) events) }
     ensures causes { Causes result (P.faults port.old) (P.faults port.new)
         (P.quiets port.old) (P.quiets port.new) (P.is_closed port.new) }
-    ensures faults_kept { P.faults port.old ≤ P.faults port.new }
-    ensures quiets_kept { P.quiets port.old ≤ P.quiets port.new }
-    ensures address_kept { P.address port.new ≡ P.address port.old }
+    ensures kept { IsPortKept P.faults P.quiets P.address P.most port.old port.new }
 {
     match port.give(to, datagram.as_slice()) {
         Ok(()) => Ending::Answered(1),
-        Err(PortFault::Failed) => Ending::PortFailed,
-        Err(PortFault::NoMemory) => Ending::NoMemory,
+        Err(PortFault::Failed) => Ending::Failed(Failure::Port),
+        Err(PortFault::NoMemory) => Ending::Failed(Failure::NoMemory),
     }
 }
 
