@@ -146,112 +146,57 @@ fn number_asked(assoc: u16, name: &[u8]) -> u8
 #[cfg(test)]
 mod tests {
     use super::*;
+    use edge_traits::Salt;
+    use fixed_time::Ntp64;
     use mac_keys::KeyTable;
     use net_addr::Ip;
     use std::test::Fail;
+    use sys_vars::Context;
 
     const CLIENT: Addr = Addr {
         ip: Ip::V4([192, 0, 2, 1]),
         port: 123,
     };
 
-    fn what_of(alloc: Global, datagram: &[u8]) -> Result<Option<What>, AllocError> {
-        match crate::classify(alloc, datagram, &CLIENT, &KeyTable::new(alloc))? {
-            Class::Look(asked) => Ok(Some(asked.what)),
-            _ => Ok(None),
+    /// What a control message asks for: the numbers of variables, or an error code behind a 0.
+    fn asked_for(alloc: Global, datagram: &[u8]) -> Result<Vec<u8>, AllocError> {
+        let context = Context {
+            salt: Salt([0; 16]),
+            origin: Ntp64(0),
+            moment: 0,
+        };
+        let keys = KeyTable::new(alloc);
+        match crate::classify(alloc, datagram, &CLIENT, &keys, &context)? {
+            Class::Look(asked) => match asked.what {
+                What::Vars(numbers) => Vec::from_slice(alloc, numbers.as_slice()),
+                What::Bad(code) => Vec::from_slice(alloc, &[0, code]),
+            },
+            _ => Vec::from_slice(alloc, b"none"),
         }
-    }
-
-    #[test]
-    fn a_request_for_stratum_is_read(rt: HostRuntime) -> Result<(), Fail> {
-        let request = *b"\x16\x02\x00\x01\x00\x00\x00\x00\x00\x00\x00\x07stratum\x00";
-        match crate::classify(rt.alloc(), &request, &CLIENT, &KeyTable::new(rt.alloc()))? {
-            Class::Look(asked) => {
-                assert_eq!(rt; asked.from, CLIENT);
-                assert_eq!(rt; (asked.head.version, asked.head.opcode), (2, 2));
-                assert_eq!(rt; (asked.head.sequence, asked.head.status), (1, 0));
-                assert_eq!(rt; asked.head.assoc, 0);
-            }
-            _ => assert!(rt; false, "it is no control request"),
-        }
-        Ok(())
     }
 
     #[test]
     fn names_are_asked_for_by_their_numbers(rt: HostRuntime) -> Result<(), Fail> {
-        let cases = [
-            (
-                "one name",
-                b"\x16\x02\x00\x01\x00\x00\x00\x00\x00\x00\x00\x07stratum\x00".as_slice(),
-                b"\x02".as_slice(),
-            ),
-            (
-                "an unknown name",
-                b"\x16\x02\x00\x01\x00\x00\x00\x00\x00\x00\x00\x04nope".as_slice(),
-                b"\xff".as_slice(),
-            ),
-            (
-                "several names in their order",
-                b"\x26\x02\x00\x01\x00\x00\x00\x00\x00\x00\x00\x0frefid,nope,leap\x00".as_slice(),
-                b"\x06\xff\x01".as_slice(),
-            ),
-            (
-                "a name of an association",
-                b"\x16\x02\x00\x01\x00\x00\x00\x05\x00\x00\x00\x07stratum\x00".as_slice(),
-                b"\xff".as_slice(),
-            ),
-            (
-                "no name",
-                b"\x16\x02\x00\x01\x00\x00\x00\x00\x00\x00\x00\x00".as_slice(),
-                b"".as_slice(),
-            ),
-        ];
-        for (message, datagram, numbers) in cases {
-            match what_of(rt.alloc(), datagram)? {
-                Some(What::Vars(asked)) => {
-                    assert!(rt; asked.as_slice() == numbers, "{message}");
-                }
-                _ => assert!(rt; false, "{message}"),
-            }
-        }
+        let one = b"\x16\x02\x00\x01\x00\x00\x00\x00\x00\x00\x00\x07stratum\x00";
+        assert!(rt; asked_for(rt.alloc(), one)?.as_slice() == b"\x02".as_slice());
+        let three = b"\x26\x02\x00\x01\x00\x00\x00\x00\x00\x00\x00\x0frefid,nope,leap\x00";
+        assert!(rt; asked_for(rt.alloc(), three)?.as_slice() == b"\x06\xff\x01".as_slice());
+        let of_association = b"\x16\x02\x00\x01\x00\x00\x00\x05\x00\x00\x00\x07stratum\x00";
+        assert!(rt; asked_for(rt.alloc(), of_association)?.as_slice() == b"\xff".as_slice());
+        let all = b"\x16\x02\x00\x01\x00\x00\x00\x00\x00\x00\x00\x00";
+        assert!(rt; asked_for(rt.alloc(), all)?.is_empty());
         Ok(())
     }
 
     #[test]
     fn what_is_not_served_is_refused_by_its_error_code(rt: HostRuntime) -> Result<(), Fail> {
-        let cases = [
-            (
-                "a value",
-                b"\x16\x02\x00\x01\x00\x00\x00\x00\x00\x00\x00\x0astratum=16\x00\x00".as_slice(),
-                BAD_FORMAT,
-            ),
-            (
-                "operation 1",
-                b"\x16\x01\x00\x01\x00\x00\x00\x00\x00\x00\x00\x00".as_slice(),
-                BAD_OPERATION,
-            ),
-            (
-                "operation 3 before a body that is refused",
-                b"\x16\x03\x00\x01\x00\x00\x00\x00\x00\x00\x00\x01=\x00\x00\x00".as_slice(),
-                BAD_OPERATION,
-            ),
-            (
-                "operation 10",
-                b"\x16\x0a\x00\x01\x00\x00\x00\x00\x00\x00\x00\x00".as_slice(),
-                BAD_OPERATION,
-            ),
-            (
-                "operation 12",
-                b"\x16\x0c\x00\x01\x00\x00\x00\x00\x00\x00\x00\x00".as_slice(),
-                BAD_OPERATION,
-            ),
-        ];
-        for (message, datagram, code) in cases {
-            match what_of(rt.alloc(), datagram)? {
-                Some(What::Bad(refused)) => assert_eq!(rt; refused, code, "{message}"),
-                _ => assert!(rt; false, "{message}"),
-            }
-        }
+        let value = b"\x16\x02\x00\x01\x00\x00\x00\x00\x00\x00\x00\x0astratum=16\x00\x00";
+        assert!(rt; asked_for(rt.alloc(), value)?.as_slice() == [0, BAD_FORMAT].as_slice());
+        // The operation goes before a body that is refused.
+        let write = b"\x16\x03\x00\x01\x00\x00\x00\x00\x00\x00\x00\x01=\x00\x00\x00";
+        assert!(rt; asked_for(rt.alloc(), write)?.as_slice() == [0, BAD_OPERATION].as_slice());
+        let list = b"\x16\x0a\x00\x01\x00\x00\x00\x00\x00\x00\x00\x00";
+        assert!(rt; asked_for(rt.alloc(), list)?.as_slice() == [0, BAD_OPERATION].as_slice());
         Ok(())
     }
 }
