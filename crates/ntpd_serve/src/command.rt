@@ -64,7 +64,8 @@ pub fn ntpd<R: Threads + Wait, H: Host, S: Sink, G: Gate>(
         × (H.binds host.new ≡ H.binds host.old)
         × Reports ending result.status (S.contents out.old) (S.contents out.new)) }
     ensures no_command { IsNoCommand (map string_bytes words.now) → IsNone result.single
-        × Reports (Ending.Failed Failure.Words) result.status (S.contents out.old) (S.contents out.new) }
+        × Reports (Ending.Failed Failure.Words) result.status
+        (S.contents out.old) (S.contents out.new) }
 
     // Each status that is a fault has its cause.
     ensures words { result.status.0 ≡ 1 → IsNoCommand (map string_bytes words.now) }

@@ -38,8 +38,8 @@ pub struct Common {
     pub origin: Ntp64,
 }
 
-/// Serves one datagram by a server that has just begun, and prints what became of it. It gives up after 60
-/// takes that found nothing.
+/// Serves one datagram by a server that has just begun, and prints what became of it. It gives up
+/// after 60 takes that found nothing.
 pub fn serve_once<P: Port, C: Clock, S: Sink>(
     alloc: Global,
     port: &mut P,
@@ -135,7 +135,8 @@ fn wait_for_datagram<P: Port>(port: &mut P, into: &mut Octets) -> Result<Addr, F
         × (P.trace port.new ≡ gained (P.trace port.old) (silences quiets ++ Took from into.new ∷ []))) }
     ensures ended { IfErr result (λ why. (events : List Event) × OnlySilences why events
         × (P.trace port.new ≡ gained (P.trace port.old) events)) }
-    ensures causes { IfErr result (λ why. Causes (Ending.Failed why) (P.faults port.old) (P.faults port.new)
+    ensures causes { IfErr result (λ why. Causes (Ending.Failed why)
+        (P.faults port.old) (P.faults port.new)
         (P.quiets port.old) (P.quiets port.new) (P.is_closed port.new)) }
     ensures kept { IsPortKept P.faults P.quiets P.address P.most port.old port.new }
 {
@@ -171,7 +172,8 @@ fn serve_datagram<P: Port, C: Clock>(
 
     // A datagram that is not heard leaves the server as it was.
     ensures silent { (why : Unheard)
-        → (context : Context) → IsClass datagram.now from.now common.now.keys context (Class.Silent why)
+        → (context : Context)
+        → IsClass datagram.now from.now common.now.keys context (Class.Silent why)
         → book.new ≡ book.old }
 
     ensures causes { Causes result (P.faults port.old) (P.faults port.new)

@@ -66,16 +66,14 @@ fn send<P: Port>(port: &mut P, to: &Addr, datagram: &Octets) -> Ending
 #[cfg(test)]
 mod tests {
     use super::*;
-    use crate::due::{due_by, due_with};
     use crate::report::report;
     use edge_traits::{Event, MemoryClock, MemoryPort, MemorySink};
     use fixed_time::Ntp64;
     use mac_keys::Auth;
     use net_addr::Ip;
-    use server_core::{Ask, Basis, Verdict};
+    use server_core::{Ask, Verdict, response_by};
     use std::alloc::{AllocError, Global};
     use std::test::Fail;
-    use sys_vars::{Answer, Record};
 
     /// 1 January 1970 (RFC 5905, figure 4).
     const ORIGIN: Ntp64 = Ntp64(0x83aa_7e80_0000_0000);
@@ -93,24 +91,24 @@ mod tests {
         auth: Auth::Absent,
     };
 
-    /// The reply of a server that knows no time yet, one second after ORIGIN.
-    const TIME: [u8; 48] = *b"\xe4\x00\x06\xec\x00\x00\x00\x00\x00\x10\x00\x00INIT\
-        \x00\x00\x00\x00\x00\x00\x00\x00\x83\xaa\x7e\x80\x00\x00\x00\x00\
-        \x83\xaa\x7e\x81\x00\x00\x00\x00\x83\xaa\x7e\x81\x00\x00\x00\x00";
-
     /// The kiss code RATE, which tells no time.
     const RATE: [u8; 48] = *b"\xe4\x00\x06\xec\x00\x00\x00\x00\x00\x00\x00\x00RATE\
         \x00\x00\x00\x00\x00\x00\x00\x00\x83\xaa\x7e\x80\x00\x00\x00\x00\
         \x83\xaa\x7e\x80\x00\x00\x00\x00\x83\xaa\x7e\x80\x00\x00\x00\x00";
 
-    /// What is given, and what is printed.
-    fn given(alloc: Global, keys: &KeyTable, due: &Due) -> Result<(Octets, MemorySink), AllocError>
-        requires { IsGivable keys.now due.now }
-    {
+    /// Whether this verdict on the request prints this line, and gives these octets.
+    fn sends(
+        alloc: Global,
+        verdict: Verdict,
+        line: &str,
+        octets: &[u8],
+    ) -> Result<bool, AllocError> {
         let mut port = MemoryPort::of(alloc, Vec::new(alloc), Vec::new(alloc));
         let mut clock = MemoryClock::of(vec![in alloc; SECOND]?);
         let mut out = MemorySink::of(alloc, Vec::new(alloc));
-        let ending = give_due(&mut port, &mut clock, keys, SECOND, due, &ASK.from);
+        let keys = KeyTable::new(alloc);
+        let response = response_by(ASK, verdict);
+        let ending = send_response(&mut port, &mut clock, &keys, SECOND, &response, &ASK.from);
         let _status = report(&ending, &mut out);
         let mut gram = Octets::new();
         for event in port.events() {
@@ -118,37 +116,14 @@ mod tests {
                 gram = octets.copy();
             }
         }
-        Ok((gram, out))
+        Ok(out.contents() == line.as_bytes() && gram.as_slice() == octets)
     }
 
     #[test]
     fn each_verdict_has_its_ending(rt: HostRuntime) -> Result<(), Fail> {
-        let record = Record::opening(rt.alloc(), ORIGIN)?;
-        let basis = Basis {
-            system: record.system,
-            clock: record.clock,
-        };
-        let keys = KeyTable::new(rt.alloc());
-        let cases: [(Verdict, &str, &[u8]); 4] = [
-            (Verdict::Ignored, "silent ignored\n", b""),
-            (Verdict::Limited, "silent limited\n", b""),
-            (Verdict::Rate, "answered 1\n", &RATE),
-            (Verdict::Served(basis), "answered 1\n", &TIME),
-        ];
-        for (verdict, line, octets) in cases {
-            let (gram, out) = given(rt.alloc(), &keys, &due_by(ASK, verdict))?;
-            assert_eq!(rt; out.contents(), line.as_bytes(), "what {verdict:?} prints");
-            assert_eq!(rt; gram.as_slice(), octets, "what {verdict:?} gives");
-        }
-        Ok(())
-    }
-
-    #[test]
-    fn a_refused_control_request_has_its_ending(rt: HostRuntime) -> Result<(), Fail> {
-        let keys = KeyTable::new(rt.alloc());
-        let (gram, out) = given(rt.alloc(), &keys, &due_with(Answer::Ignored))?;
-        assert_eq!(rt; out.contents(), b"silent ignored\n".as_slice());
-        assert_eq!(rt; gram.len(), 0);
+        assert!(rt; sends(rt.alloc(), Verdict::Ignored, "silent ignored\n", b"")?);
+        assert!(rt; sends(rt.alloc(), Verdict::Limited, "silent limited\n", b"")?);
+        assert!(rt; sends(rt.alloc(), Verdict::Rate, "answered 1\n", &RATE)?);
         Ok(())
     }
 }

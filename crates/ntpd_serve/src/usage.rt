@@ -28,7 +28,8 @@ pub const HELP: &[u8] =
 /// Its version.
 pub const VERSION: &[u8] = b"ntpd 0.1.0\n";
 
-/// The words after the program's name; none where one of them is no text. It fails for want of memory.
+/// The words after the program's name; none where one of them is no text. It fails for want of
+/// memory.
 pub fn words<R: Env + AllocGlobal>(rt: &R) -> Result<Vec<String>, AllocError> {
     let mut words = Vec::new(rt.alloc());
     let given = match env::args(rt) {

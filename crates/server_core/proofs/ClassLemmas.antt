@@ -8,7 +8,8 @@ use Rattle.mac_keys.specs.declared.checking.Auth.{Auth}
 use Rattle.mac_keys.specs.declared.keys.Key.{Key}
 use Rattle.ntp_packet.specs.declared.packet.Header.{Header}
 use Rattle.ntp_packet.specs.declared.packet.PacketFault.{PacketFault}
-use Rattle.ntp_packet.specs.Packet.{IsPacket, fault_of, mode_of}
+use Rattle.ntp_packet.specs.FirstOctet.{mode_of}
+use Rattle.ntp_packet.specs.Packet.{IsPacket, fault_of}
 use Rattle.ntp_trailer.specs.declared.parts.Trailer.{Trailer as FieldsAndMac}
 use Rattle.ntp_trailer.specs.declared.parts.TrailerFault.{TrailerFault}
 use Rattle.ntp_trailer.specs.Trailers.{HasTrailer, IsRefused}
@@ -17,7 +18,7 @@ use Rattle.mode6_frame.specs.declared.message.FrameFault.{FrameFault}
 use Rattle.mode6_frame.specs.Frames.{FrameParts, IsFrame, frame_fault_of}
 use Rattle.sys_vars.specs.declared.asked.Asked.{Asked}
 use Rattle.sys_vars.specs.declared.context.Context.{Context}
-use Rattle.server_core.specs.declared.class.TheConstants.{MODE_CLIENT, MODE_CONTROL}
+use Rattle.ntp_packet.specs.declared.leap_version_mode.TheConstants.{MODE_CLIENT, MODE_CONTROL}
 use Rattle.server_core.specs.declared.class.Ask.{Ask}
 use Rattle.server_core.specs.declared.class.Class.{Class}
 use Rattle.server_core.specs.declared.class.Class.TheVariants.{Silent, Time, Look}

@@ -9,7 +9,7 @@ use Rattle.server_core.specs.declared.step.Reply.{Reply}
 use Rattle.server_core.specs.declared.step.StepFault.{StepFault}
 use Rattle.server_core.specs.declared.step.StepFault.TheVariants.{NoMemory}
 use Rattle.server_core.specs.Books.{BookParts, MayWant}
-use Rattle.server_core.specs.Histories.{AreSteps, IsStep, accepted, published_by, records_in, reply_at, state_after_all}
+use Rattle.server_core.specs.Histories.{AreSteps, IsLegal, IsStep, accepted, published_by, records_in, reply_at, state_after_all}
 use Rattle.server_core.specs.Journals.{published_in}
 use Rattle.server_core.specs.States.{ServerState, refusal_of, reply_to, state_after}
 
@@ -81,3 +81,8 @@ published_by-last opening (Arrive ask moment ∷ ops) = published_by-last openin
 published_by-last opening (Look asked context ∷ ops) = published_by-last opening ops
 published_by-last opening (Sweep moment ∷ ops) = published_by-last opening ops
 published_by-last opening (Stop stop ∷ ops) = published_by-last opening ops
+
+-- legal operations, and legal ones after them, are legal as a whole
+pub IsLegal-append : (s : ServerState) (before after : List Op) → IsLegal s before → IsLegal (state_after_all s before) after → IsLegal s (before ++ after)
+IsLegal-append s [] after first second = second
+IsLegal-append s (op ∷ before) after first second = (first.0, IsLegal-append (state_after s op) before after first.1 second)

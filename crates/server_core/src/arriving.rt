@@ -3,10 +3,11 @@ ghost use Rattle.access_rules.specs.Flags.{has_flag};
 ghost use Rattle.recency.specs.Rows.{AreBefore, AreRows, IsClientList, find_row};
 ghost use Rattle.server_core.specs.Verdicts.{arrival_rows, arrival_stamp, arrival_verdict, flags_on, is_ignored, rows_at, rows_told, verdict_at, visit_of};
 
-use crate::class::{Ask, MODE_CLIENT};
+use crate::class::Ask;
 use crate::verdict::{Verdict, judge};
 use access_rules::{IGNORE, LIMITED, flags_for, has_flag};
 use net_addr::Ip;
+use ntp_packet::MODE_CLIENT;
 use recency::{Recency, Row, Steps, Visit};
 use std::alloc::AllocError;
 use std::sync::ledger::{Blank, Ledger};

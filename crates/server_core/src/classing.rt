@@ -1,21 +1,22 @@
 ghost use Rattle.std.specs.Prelude.{◌≡◌, ◌≢◌, ◌≤◌, ◌<◌, length, [], IfOk, IfErr};
-ghost use Rattle.ntp_packet.specs.Packet.{IsPacket, mode_of};
+ghost use Rattle.ntp_packet.specs.FirstOctet.{mode_of};
+ghost use Rattle.ntp_packet.specs.Packet.{IsPacket};
 ghost use Rattle.sys_vars.specs.declared.context.Context.{Context};
 ghost use Rattle.server_core.specs.declared.class.Class.{Class};
 ghost use Rattle.server_core.specs.Class.{IsClass, IsAskOf, packet_number, trailer_number};
 ghost use Rattle.server_core.specs.Control.{IsReadRequest};
 
-use crate::class::{Ask, Class, MODE_CLIENT, MODE_CONTROL, Unheard};
+use crate::class::{Ask, Class, Unheard};
 use crate::control::classify_control;
 use mac_keys::{Auth, KeyTable};
 use net_addr::Addr;
-use ntp_packet::{Header, PacketFault};
+use ntp_packet::{Header, MODE_CLIENT, MODE_CONTROL, PacketFault, mode_in};
 use ntp_trailer::{TrailerFault, auth, split};
 use std::alloc::{AllocError, Global};
 use sys_vars::Context;
 
-/// What a datagram from this address that came in this context asks for, where these keys are known.
-/// Memory is taken for a request to read variables alone.
+/// What a datagram from this address that came in this context asks for, where these keys are
+/// known. Memory is taken for a request to read variables alone.
 pub fn classify(
     alloc: Global,
     bytes: &[u8],
@@ -36,14 +37,6 @@ pub fn classify(
         MODE_CONTROL => classify_control(alloc, bytes, from),
         mode => Ok(Class::Silent(Unheard::Unserved(mode))),
     }
-}
-
-/// The mode of a packet or a control message: bits 0 to 2 of its first octet.
-fn mode_in(bytes: &[u8]) -> u8
-    requires { 0 < length bytes.now }
-    ensures { result ≡ mode_of bytes.now }
-{
-    bytes[0] & 0b111
 }
 
 /// What a datagram of a client's mode asks for.

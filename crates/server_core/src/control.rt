@@ -6,19 +6,19 @@ ghost use Rattle.sys_vars.specs.declared.asked.Asked.{Asked};
 ghost use Rattle.sys_vars.specs.declared.asked.What.{What};
 ghost use Rattle.sys_vars.specs.declared.context.Context.{Context};
 ghost use Rattle.sys_vars.specs.declared.asked.TheConstants.{MAX_NAMES};
-ghost use Rattle.server_core.specs.declared.class.TheConstants.{MODE_CONTROL};
+ghost use Rattle.ntp_packet.specs.declared.leap_version_mode.TheConstants.{MODE_CONTROL};
 ghost use Rattle.server_core.specs.declared.class.Class.{Class};
 ghost use Rattle.server_core.specs.Class.{IsClass};
 ghost use Rattle.server_core.specs.Control.{IsReadRequest, IsNumberAsked, AreNumbersAsked, IsWhat, IsHeadOf, IsAskedOf, frame_number, has_answer_bit};
 
 use crate::class::{Class, Unheard};
-use mode6_frame::{Frame, FrameFault, Head, ItemFault, Items, read_items};
+use mode6_frame::{
+    BAD_FORMAT, BAD_OPERATION, Frame, FrameFault, Head, ItemFault, Items, OP_READ_VARIABLES,
+    read_items,
+};
 use net_addr::Addr;
 use std::alloc::{AllocError, Global};
-use sys_vars::{Asked, BAD_FORMAT, BAD_OPERATION, NameNumbers, UNKNOWN_NAME, What, name_number};
-
-/// The operation code of a request to read variables (RFC 9327, section 2).
-pub const READ_VARIABLES: u8 = 2;
+use sys_vars::{Asked, NameNumbers, UNKNOWN_NAME, What, name_number};
 
 /// What a datagram of a control message's mode asks for.
 pub(crate) fn classify_control(
@@ -68,7 +68,7 @@ fn asked_by(alloc: Global, frame: &Frame<'_>, from: &Addr) -> Result<Asked, Allo
     ensures found { IfOk result (λ asked. IsAskedOf (parts_of frame.now) from.now asked) }
     ensures only { (asked : Asked) → IsAskedOf (parts_of frame.now) from.now asked
         → IfOk result (λ it. it ≡ asked) }
-    ensures no_memory { IfErr result (λ _. frame.now.opcode ≡ READ_VARIABLES) }
+    ensures no_memory { IfErr result (λ _. frame.now.opcode ≡ OP_READ_VARIABLES) }
 {
     let what = what_asked(alloc, frame)?;
     Ok(Asked {
@@ -97,9 +97,9 @@ fn what_asked(alloc: Global, frame: &Frame<'_>) -> Result<What, AllocError>
     ensures found { IfOk result (λ what. IsWhat (parts_of frame.now) what) }
     ensures only { (what : What) → IsWhat (parts_of frame.now) what
         → IfOk result (λ it. it ≡ what) }
-    ensures no_memory { IfErr result (λ _. frame.now.opcode ≡ READ_VARIABLES) }
+    ensures no_memory { IfErr result (λ _. frame.now.opcode ≡ OP_READ_VARIABLES) }
 {
-    if frame.opcode == READ_VARIABLES {
+    if frame.opcode == OP_READ_VARIABLES {
         variables_asked(alloc, frame)
     } else {
         Ok(What::Bad(BAD_OPERATION))
@@ -109,7 +109,7 @@ fn what_asked(alloc: Global, frame: &Frame<'_>) -> Result<What, AllocError>
 /// What a request to read variables asks for.
 fn variables_asked(alloc: Global, frame: &Frame<'_>) -> Result<What, AllocError>
     requires fits { FitsFrame (parts_of frame.now) }
-    requires reads { frame.now.opcode ≡ READ_VARIABLES }
+    requires reads { frame.now.opcode ≡ OP_READ_VARIABLES }
     ensures found { IfOk result (λ what. IsWhat (parts_of frame.now) what) }
     ensures only { (what : What) → IsWhat (parts_of frame.now) what
         → IfOk result (λ it. it ≡ what) }

@@ -2,10 +2,9 @@ ghost use Rattle.std.specs.Prelude.{◌≡◌, ◌≤◌, length};
 ghost use Rattle.server_core.specs.Reply.{rate_header, rate_reply_of};
 
 use crate::class::Ask;
-use crate::reply::MODE_SERVER;
 use edge_traits::Octets;
 use fixed_time::{Ntp64, Short};
-use ntp_packet::{HEADER_LEN, Header};
+use ntp_packet::{HEADER_LEN, Header, MODE_SERVER};
 
 /// The kiss code RATE: the client is to slow down (RFC 5905, section 7.4).
 pub const RATE: [u8; 4] = *b"RATE";

@@ -1,6 +1,6 @@
-ghost use Rattle.std.specs.Prelude.{◌≡◌, ◌<◌, ◌≤◌, ◌+◌, ◌++◌, ◌∷◌, List, length, slice_get, None, Some, false};
+ghost use Rattle.std.specs.Prelude.{◌≡◌, ◌<◌, ◌≤◌, ◌+◌, ◌++◌, ◌∷◌, List, length, slice_get, None, Some, true, false};
 ghost use Rattle.server_core.specs.declared.op.Op.{Op};
-ghost use Rattle.server_core.specs.Histories.{Place, IsLegalAt, published_by, records_in, reply_at, state_after_all};
+ghost use Rattle.server_core.specs.Histories.{Place, IsLegal, IsLegalAt, published_by, records_in, reply_at, state_after_all};
 ghost use Rattle.server_core.specs.Journals.{published_in};
 ghost use Rattle.server_core.specs.States.{ServerState, refusal_of, reply_to, stamp_after, state_after};
 ghost use Rattle.server_core.specs.Verdicts.{is_ignored};
@@ -36,6 +36,21 @@ pub fn requests_that_are_taken_are_legal(ask: &Ask, moment: u64)
     ghost place: { Place }
     requires { refusal_of place.before place.opening.stamp (Op.Arrive ask.now moment) ≡ None }
     ensures { IsLegalAt place.opening (Op.Arrive ask.now moment) }
+{}
+
+/// Legal operations, and legal ones from the state that they make, are legal as a whole.
+pub fn legal_histories_join()
+    ghost place: { Place }
+    requires before { IsLegal place.opening place.before }
+    requires after { IsLegal (state_after_all place.opening place.before) place.after }
+    ensures { IsLegal place.opening (place.before ++ place.after) }
+{}
+
+/// A client that is ignored leaves the server as it was.
+pub fn ignored_clients_change_nothing(ask: &Ask, moment: u64)
+    ghost server: { ServerState }
+    requires { is_ignored server.published ask.now ≡ true }
+    ensures { state_after server (Op.Arrive ask.now moment) ≡ server }
 {}
 
 /// An operation is answered by the state that those before it make, whatever follows.

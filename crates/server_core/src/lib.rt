@@ -31,9 +31,8 @@ mod tests;
 pub mod verdict;
 
 pub use book::Book;
-pub use class::{Ask, Class, MODE_CLIENT, MODE_CONTROL, Unheard};
+pub use class::{Ask, Class, Unheard};
 pub use classing::classify;
-pub use control::READ_VARIABLES;
 pub use journal::Journal;
 pub use kiss::{RATE, rate_reply, rate_reply_into};
 pub use op::{MAX_ENTRIES, MAX_PUBLICATIONS, Op, Stop, Why};
@@ -43,4 +42,4 @@ pub use request::{Call, Request};
 pub use responding::{call_of, respond, response_by, response_to, response_with};
 pub use response::{Response, Silence};
 pub use step::{Reply, StepFault};
-pub use verdict::{CURRENT_VERSION, Verdict};
+pub use verdict::Verdict;

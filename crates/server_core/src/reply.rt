@@ -8,15 +8,9 @@ use discipline::SoftClock;
 use edge_traits::Octets;
 use fixed_time::{MAX_DISPERSION, PHI, Short, drift, to_short};
 use mac_keys::{Auth, KeyTable};
-use ntp_packet::{HEADER_LEN, Header};
+use ntp_packet::{HEADER_LEN, Header, MODE_SERVER, UNSYNCHRONIZED_STRATUM};
 use ntp_trailer::{append_mac, append_nak};
 use sys_vars::System;
-
-/// The mode of a server's reply (RFC 5905, section 7.3, figure 10).
-pub const MODE_SERVER: u8 = 4;
-
-/// The stratum of a server that is not synchronized (RFC 5905, section 7.3, figure 11).
-pub const UNSYNCHRONIZED: u8 = 16;
 
 /// What a reply is made of: the system and the clock of one record.
 #[derive(Clone, Copy, Debug, PartialEq, Eq)]
@@ -113,7 +107,7 @@ fn header_of(basis: &Basis, ask: &Ask, came: u64, sent: u64) -> Header
 fn stratum_shown(stratum: u8) -> u8
     ensures { result ≡ shown_stratum stratum }
 {
-    if stratum == UNSYNCHRONIZED {
+    if stratum == UNSYNCHRONIZED_STRATUM {
         0
     } else {
         stratum

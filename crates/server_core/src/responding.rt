@@ -1,8 +1,10 @@
-ghost use Rattle.std.specs.Prelude.{◌≡◌, Some, Err, IfOk, IfErr, OnOk, OnErr};
+ghost use Rattle.std.specs.Prelude.{◌≡◌, List, Some, Err, IfOk, IfErr, OnOk, OnErr};
 ghost use Rattle.server_core.specs.declared.class.Class.{Class};
 ghost use Rattle.server_core.specs.declared.class.Unheard.{Unheard};
+ghost use Rattle.mac_keys.specs.declared.keys.Key.{Key};
 ghost use Rattle.server_core.specs.Books.{IsShort};
 ghost use Rattle.server_core.specs.Class.{IsClass};
+ghost use Rattle.server_core.specs.Reply.{HasKey};
 ghost use Rattle.server_core.specs.Responses.{IsAccepted, IsGivable, IsResponse, IsShortResponse, IsUntaken, book_after, op_of, response_by, response_of, response_to, response_with};
 ghost use Rattle.server_core.specs.States.{ServerState, reply_to};
 
@@ -32,7 +34,8 @@ pub fn respond(
     from: &Addr,
     bytes: &[u8],
 ) -> Result<Response, StepFault>
-    ensures response { IfOk result (IsResponse book.old.state keys.now context.now from.now bytes.now) }
+    ensures response { IfOk result
+        (IsResponse book.old.state keys.now context.now from.now bytes.now) }
     ensures givable { IfOk result (IsGivable keys.now) }
 
     // What becomes of the server.
@@ -77,7 +80,8 @@ fn respond_to_class(
     }
 }
 
-/// What a datagram of this class asks of a server that came in this context, or why it is not heard.
+/// What a datagram of this class that came in this context asks of a server, or why it is not
+/// heard.
 pub fn call_of(class: Class, context: &Context) -> Result<Call, Unheard>
     ensures op { IfOk result (λ call. op_of context.now class ≡ Some call.op) }
     ensures response { (server : ServerState) → IfOk result (λ call.
@@ -112,7 +116,8 @@ pub fn response_to(request: Request, reply: Reply) -> Response
 
 /// The response to a request for the time, by its verdict.
 pub fn response_by(ask: Ask, verdict: Verdict) -> Response
-    ensures { result ≡ response_by ask verdict }
+    ensures value { result ≡ response_by ask verdict }
+    ensures givable { (keys : List Key) → HasKey keys ask.auth → IsGivable keys result }
 {
     match verdict {
         Verdict::Ignored => Response::Silent(Silence::Ignored),
@@ -129,5 +134,73 @@ pub fn response_with(answer: Answer) -> Response
     match answer {
         Answer::Ignored => Response::Silent(Silence::Ignored),
         Answer::Given { grams, .. } => Response::Grams(grams),
+    }
+}
+
+#[cfg(test)]
+mod tests {
+    use super::*;
+    use access_rules::{IGNORE, NOQUERY, NOSERVE};
+    use edge_traits::Salt;
+    use fixed_time::Ntp64;
+    use net_addr::{Ip, prefix_of};
+    use recency::Limits;
+    use std::test::Fail;
+    use sys_vars::Record;
+
+    const CLIENT: Addr = Addr {
+        ip: Ip::V4([10, 0, 0, 1]),
+        port: 40000,
+    };
+
+    const CONTEXT: Context = Context {
+        salt: Salt([0; 16]),
+        origin: Ntp64(0),
+        moment: 1 << 32,
+    };
+
+    /// A client's request of version 4.
+    const TIME: [u8; 48] = *b"\x23\x00\x06\xe9\
+        \x00\x00\x00\x00\x00\x00\x00\x00\x00\x00\x00\x00\x00\x00\x00\x00\x00\x00\x00\x00\x00\x00\
+        \x00\x00\x00\x00\x00\x00\x00\x00\x00\x00\x00\x00\x00\x00\x83\xaa\x7e\x80\x00\x00\x00\x00";
+
+    /// A control request: read all variables.
+    const LOOK: [u8; 12] = *b"\x16\x02\x00\x01\x00\x00\x00\x00\x00\x00\x00\x00";
+
+    fn letter_of(response: &Response) -> u8 {
+        match response {
+            Response::Silent(Silence::Unheard(_)) => b'U',
+            Response::Silent(Silence::Ignored) => b'I',
+            Response::Silent(Silence::Limited) => b'L',
+            Response::Time(..) => b'T',
+            Response::Rate(_) => b'R',
+            Response::Grams(_) => b'G',
+        }
+    }
+
+    /// The letter of the response to a datagram of a client with these flags, and how many entries
+    /// the journal then has.
+    fn responded(alloc: Global, flags: u16, datagram: &[u8]) -> Result<(u8, usize), Fail> {
+        let mut record = Record::opening(alloc, Ntp64(0))?;
+        record.rules.add(&prefix_of(&CLIENT.ip, 8), flags)?;
+        let mut book = Book::begin(alloc, record, Limits::plain(), Ntp64(0))?;
+        let keys = KeyTable::new(alloc);
+        let response = respond(alloc, &mut book, &keys, &CONTEXT, &CLIENT, datagram)?;
+        Ok((letter_of(&response), book.journal().len()))
+    }
+
+    #[test]
+    fn only_a_request_is_an_entry(rt: HostRuntime) -> Result<(), Fail> {
+        let alloc = rt.alloc();
+        assert!(rt; responded(alloc, 0, b"")? == (b'U', 0));
+        assert!(rt; responded(alloc, 0, &TIME[..47])? == (b'U', 0));
+        assert!(rt; responded(alloc, IGNORE, &TIME[..47])? == (b'U', 0));
+        assert!(rt; responded(alloc, 0, &LOOK[..11])? == (b'U', 0));
+        assert!(rt; responded(alloc, 0, &TIME)? == (b'T', 1));
+        assert!(rt; responded(alloc, IGNORE, &TIME)? == (b'I', 1));
+        assert!(rt; responded(alloc, NOSERVE, &TIME)? == (b'I', 1));
+        assert!(rt; responded(alloc, NOSERVE, &LOOK)? == (b'G', 1));
+        assert!(rt; responded(alloc, NOQUERY, &LOOK)? == (b'I', 1));
+        Ok(())
     }
 }

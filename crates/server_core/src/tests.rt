@@ -3,7 +3,7 @@ use access_rules::{IGNORE, KOD, LIMITED, NOQUERY, NOSERVE, Rate};
 use edge_traits::Salt;
 use fixed_time::Ntp64;
 use mac_keys::Auth;
-use mode6_frame::Head;
+use mode6_frame::{Head, OP_READ_VARIABLES};
 use net_addr::{Addr, Ip, prefix_of};
 use recency::Limits;
 use std::alloc::{AllocError, Global};
@@ -99,8 +99,8 @@ fn score_of(book: &Book, ip: [u8; 4]) -> u32 {
     }
 }
 
-/// A client under these flags asks six times in one moment and once three seconds later, of a server
-/// that allows 60 a minute, 4 at once, and 2 seconds between two kiss codes.
+/// A client under these flags asks six times in one moment and once three seconds later, of a
+/// server that allows 60 a minute, 4 at once, and 2 seconds between two kiss codes.
 fn check_rate(rt: &impl Abort, alloc: Global, flags: u16, over: u8) -> Result<(), Fail> {
     let mut rec = restricted(alloc, Ip::V4([0; 4]), 0, flags)?;
     rec.rate = Rate {
@@ -116,8 +116,8 @@ fn check_rate(rt: &impl Abort, alloc: Global, flags: u16, over: u8) -> Result<()
     assert!(rt; score_of(&book, client) == 240_000);
     assert!(rt; asked(&mut book, client, SECOND) == over);
     assert!(rt; asked(&mut book, client, SECOND) == b'L');
-    // The sixth has the stamp 2^32 + 5; in the 3 seconds less 5 units up to the seventh 179,999 leak
-    // out of 360,000.
+    // The sixth has the stamp 2^32 + 5; in the 3 seconds less 5 units up to the seventh 179,999
+    // leak out of 360,000.
     assert!(rt; score_of(&book, client) == 360_000);
     assert!(rt; asked(&mut book, client, 4 * SECOND) == over);
     assert!(rt; score_of(&book, client) == 240_001);
@@ -147,7 +147,7 @@ fn stratum(alloc: Global, ip: [u8; 4]) -> Result<Op, AllocError> {
         },
         head: Head {
             version: 2,
-            opcode: READ_VARIABLES,
+            opcode: OP_READ_VARIABLES,
             sequence: 1,
             status: 0,
             assoc: 0,
@@ -233,8 +233,8 @@ fn the_last_publication_is_refused_once_reached(rt: HostRuntime) -> Result<(), F
     Ok(())
 }
 
-// By hand: the second request comes 120 seconds after the first, and its score has leaked away; what
-// comes after a stop is refused.
+// By hand: the second request comes 120 seconds after the first, and its score has leaked away;
+// what comes after a stop is refused.
 #[test]
 fn a_list_of_operations_is_answered_one_after_another(rt: HostRuntime) -> Result<(), Fail> {
     let mut book = book_of(rt.alloc(), Record::opening(rt.alloc(), UNIX)?)?;

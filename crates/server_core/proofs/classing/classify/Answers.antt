@@ -7,7 +7,7 @@ returns-then-is_empty-clause-only c = only_empty _ _ _ c.args.context.now (empty
 
 pub returns-in_default-clause-only : goal.returns-in_default-clause-only
 returns-in_default-clause-only c =
-    only_unserved _ _ _ c.args.context.now _ (not_empty _ _ c.is_empty.ensures c.if-is_empty.false) c.mode_in.ensures (λ e. omega (arith, e)) (λ e. omega (arith, e))
+    only_unserved _ _ _ c.args.context.now _ (not_empty _ _ c.is_empty.ensures c.if-is_empty.false) c.mode_in.ensures.value (λ e. omega (arith, e)) (λ e. omega (arith, e))
 
 pub returns-in-6-clause-found : goal.returns-in-6-clause-found
 returns-in-6-clause-found c = c.classify_control.ensures.found c.args.keys.now c.args.context.now
