@@ -1,4 +1,4 @@
 pub mod OnceLemmas
 pub mod CommandLemmas
-pub mod DueLemmas
 pub mod OpeningLemmas
+mod WorkedFacts

@@ -9,15 +9,18 @@ use Rattle.edge_traits.specs.declared.port.Event.{Event}
 use Rattle.edge_traits.specs.declared.port.Event.TheVariants.{Silence, Took}
 use Rattle.edge_traits.specs.declared.status.Status.{Status}
 use Rattle.server_core.specs.States.{ServerState}
+use Rattle.server_core.specs.declared.response.Response.{Response}
+use Rattle.server_core.specs.declared.response.Response.TheVariants.{Silent as NoAnswer}
+use Rattle.server_core.specs.declared.response.Silence.{Silence as Reason}
+use Rattle.server_core.specs.Responses.{IsResponse, grams_of}
 use Rattle.ntpd_serve.specs.Ending.{Reports}
 use Rattle.ntpd_serve.specs.declared.once.TheConstants.{PATIENCE}
 use Rattle.ntpd_serve.specs.declared.ending.Ending.{Ending}
-use Rattle.ntpd_serve.specs.declared.ending.Ending.TheVariants.{Answered, Silent, Ignored, Limited, Words, HostFailed, PortFailed, Quiet, Closed, NoMemory}
+use Rattle.ntpd_serve.specs.declared.ending.Ending.TheVariants.{Answered, Silent, Failed}
+use Rattle.ntpd_serve.specs.declared.ending.Failure.{Failure}
+use Rattle.ntpd_serve.specs.declared.ending.Failure.TheVariants.{Words, Host, Port, Quiet, Closed, NoMemory}
 use Rattle.ntpd_serve.specs.declared.once.Common.{Common}
-use Rattle.ntpd_serve.specs.declared.due.Due.{Due}
-use Rattle.ntpd_serve.specs.declared.due.Due.TheVariants.{Unheard, Ignored as IgnoredDue, Limited as LimitedDue}
-use Rattle.ntpd_serve.specs.Due.{IsDue, IsGram}
-use Rattle.ntpd_serve.specs.Once.{silences, context_at, IsAnswer, IsUnanswered, Follows, GivesDue, GivesOne, Happens, Causes, HasCome, IsServed}
+use Rattle.ntpd_serve.specs.Once.{silences, context_at, IsAnswer, IsUnanswered, Follows, GivesResponse, GivesOne, OnlySilences, Happens, Causes, HasCome, IsServed}
 
 -- no silence yet
 pub gained-no_silence : (told : Option (List Event)) → told ≡ gained told (silences 0)
@@ -63,60 +66,48 @@ Grows-nothing None = tt
 Grows-nothing (Some told) = sym (append-nil told)
 
 -- without memory for a server nothing happens
-pub Happens-no_memory : (common : Common) → Happens common NoMemory [] []
+pub Happens-no_memory : (common : Common) → Happens common (Failed NoMemory) [] []
 unfolding silences
-Happens-no_memory common = inr ((0, omega arith, refl), refl)
+Happens-no_memory common = inr (NoMemory, refl, (0, omega arith, refl), refl)
 
--- one give of the datagram that is due, once the clock was read
-pub GivesDue-GivesOne : (keys : List Key) (came sent : ℕ) (due : Due) (ending : Ending) (to : Addr) (gram : List ℕ) (events : List Event) → IsGram keys came sent due gram → GivesOne ending to gram events → GivesDue keys came due ending to events (sent ∷ [])
-GivesDue-GivesOne keys came sent due (Answered count) to gram events is gives = (gram, sent, is, gives.0, gives.1, refl)
-GivesDue-GivesOne keys came sent due PortFailed to gram events is gives = (gram, sent, is, gives, refl)
-GivesDue-GivesOne keys came sent due NoMemory to gram events is gives = gives
-GivesDue-GivesOne keys came sent due (Silent why) to gram events is gives = absurd gives
-GivesDue-GivesOne keys came sent due Ignored to gram events is gives = absurd gives
-GivesDue-GivesOne keys came sent due Limited to gram events is gives = absurd gives
-GivesDue-GivesOne keys came sent due Words to gram events is gives = absurd gives
-GivesDue-GivesOne keys came sent due HostFailed to gram events is gives = absurd gives
-GivesDue-GivesOne keys came sent due Quiet to gram events is gives = absurd gives
-GivesDue-GivesOne keys came sent due Closed to gram events is gives = absurd gives
+-- one give of the response's datagram, once the clock was read
+pub GivesResponse-GivesOne : (keys : List Key) (came sent : ℕ) (response : Response) (ending : Ending) (to : Addr) (gram : List ℕ) (events : List Event) → grams_of keys came sent response ≡ gram ∷ [] → GivesOne ending to gram events → GivesResponse keys came response ending to events (sent ∷ [])
+GivesResponse-GivesOne keys came sent response (Answered count) to gram events one gives = (gram, sent, one, gives.0, gives.1, refl)
+GivesResponse-GivesOne keys came sent response (Silent why) to gram events one gives = absurd gives
+GivesResponse-GivesOne keys came sent response (Failed Port) to gram events one gives = (gram, sent, one, gives, refl)
+GivesResponse-GivesOne keys came sent response (Failed NoMemory) to gram events one gives = gives
+GivesResponse-GivesOne keys came sent response (Failed _) to gram events one gives = absurd gives
 
--- a datagram that is due nothing
-IsUnanswered-due : (common : Common) (s : ServerState) (from : Addr) (octets : List ℕ) (came : ℕ) (due none : Due) (events : List Event) (readings : List ℕ) → IsDue s common.keys (context_at common came) from octets due → due ≡ none → events ≡ [] → readings ≡ [] → IsUnanswered common s from octets none events (came ∷ readings)
-IsUnanswered-due common s from octets came due none events readings is same nothing unread = record {
+-- a datagram that gets no answer
+IsUnanswered-response : (common : Common) (s : ServerState) (from : Addr) (octets : List ℕ) (came : ℕ) (response : Response) (why : Reason) (events : List Event) (readings : List ℕ) → IsResponse s common.keys (context_at common came) from octets response → response ≡ NoAnswer why → events ≡ [] → readings ≡ [] → IsUnanswered common s from octets why events (came ∷ readings)
+IsUnanswered-response common s from octets came response why events readings is same nothing unread = record {
   came = came;
   read = ap (λ (more : List ℕ). came ∷ more) unread;
-  is_due = subst (IsDue s common.keys (context_at common came) from octets) same is;
+  is_response = subst (IsResponse s common.keys (context_at common came) from octets) same is;
   none = nothing;
 }
 
 -- a datagram that is answered
-IsAnswer-due : (common : Common) (s : ServerState) (from : Addr) (octets : List ℕ) (came sent : ℕ) (due : Due) (gram readings : List ℕ) → IsDue s common.keys (context_at common came) from octets due → IsGram common.keys came sent due gram → readings ≡ sent ∷ [] → IsAnswer common s from octets (came ∷ readings) gram
-IsAnswer-due common s from octets came sent due gram readings is gives read = record {
-  due = due;
+IsAnswer-response : (common : Common) (s : ServerState) (from : Addr) (octets : List ℕ) (came sent : ℕ) (response : Response) (gram readings : List ℕ) → IsResponse s common.keys (context_at common came) from octets response → grams_of common.keys came sent response ≡ gram ∷ [] → readings ≡ sent ∷ [] → IsAnswer common s from octets (came ∷ readings) gram
+IsAnswer-response common s from octets came sent response gram readings is one read = record {
+  response = response;
   came = came;
   sent = sent;
   read = ap (λ (more : List ℕ). came ∷ more) read;
-  is_due = is;
-  is = gives;
+  is_response = is;
+  one = one;
 }
 
--- what is done about what a datagram is due is what follows it
-pub Follows-GivesDue : (common : Common) (s : ServerState) (from : Addr) (octets : List ℕ) (came : ℕ) (due : Due) (ending : Ending) (events : List Event) (readings : List ℕ) → IsDue s common.keys (context_at common came) from octets due → GivesDue common.keys came due ending from events readings → Follows common s ending from octets events (came ∷ readings)
-Follows-GivesDue common s from octets came due (Answered count) events readings is (gram, sent, gives, given, one, read) =
-    (gram, IsAnswer-due common s from octets came sent due gram readings is gives read, given, one)
-Follows-GivesDue common s from octets came due PortFailed events readings is (gram, sent, gives, none, read) =
-    (gram, IsAnswer-due common s from octets came sent due gram readings is gives read, none)
-Follows-GivesDue common s from octets came due NoMemory events readings is gives = gives
-Follows-GivesDue common s from octets came due (Silent why) events readings is (same, none, unread) =
-    IsUnanswered-due common s from octets came due (Unheard why) events readings is same none unread
-Follows-GivesDue common s from octets came due Ignored events readings is (same, none, unread) =
-    IsUnanswered-due common s from octets came due IgnoredDue events readings is same none unread
-Follows-GivesDue common s from octets came due Limited events readings is (same, none, unread) =
-    IsUnanswered-due common s from octets came due LimitedDue events readings is same none unread
-Follows-GivesDue common s from octets came due Words events readings is gives = absurd gives
-Follows-GivesDue common s from octets came due HostFailed events readings is gives = absurd gives
-Follows-GivesDue common s from octets came due Quiet events readings is gives = absurd gives
-Follows-GivesDue common s from octets came due Closed events readings is gives = absurd gives
+-- what is done about the response to a datagram is what follows it
+pub Follows-GivesResponse : (common : Common) (s : ServerState) (from : Addr) (octets : List ℕ) (came : ℕ) (response : Response) (ending : Ending) (events : List Event) (readings : List ℕ) → IsResponse s common.keys (context_at common came) from octets response → GivesResponse common.keys came response ending from events readings → Follows common s ending from octets events (came ∷ readings)
+Follows-GivesResponse common s from octets came response (Answered count) events readings is (gram, sent, one, given, counted, read) =
+    (gram, IsAnswer-response common s from octets came sent response gram readings is one read, given, counted)
+Follows-GivesResponse common s from octets came response (Silent why) events readings is (same, none, unread) =
+    IsUnanswered-response common s from octets came response why events readings is same none unread
+Follows-GivesResponse common s from octets came response (Failed Port) events readings is (gram, sent, one, none, read) =
+    (gram, IsAnswer-response common s from octets came sent response gram readings is one read, none)
+Follows-GivesResponse common s from octets came response (Failed NoMemory) events readings is gives = gives
+Follows-GivesResponse common s from octets came response (Failed _) events readings is gives = absurd gives
 
 -- among silences alone there is no datagram
 no_datagram : (n : ℕ) (before after : List Event) (from : Addr) (octets : List ℕ) → replicate n Silence ≡ before ++ Took from octets ∷ after → ⊥
@@ -131,21 +122,21 @@ silences_only : (n : ℕ) (events : List Event) → events ≡ silences n → ¬
 unfolding silences
 silences_only n events only (before, from, octets, after, is) = no_datagram n before after from octets (sym only ∙ is)
 
+none_came : (why : Failure) (events : List Event) → OnlySilences why events → ¬ HasCome events
+none_came Quiet events only came = silences_only PATIENCE events only came
+none_came Words events only came = absurd only
+none_came Host events only came = absurd only
+none_came Port events only came = silences_only only.0 events only.2 came
+none_came Closed events only came = silences_only only.0 events only.2 came
+none_came NoMemory events only came = silences_only only.0 events only.2 came
+
 -- where a datagram came, and neither port nor sink failed, it was served
 pub IsServed-HasCome : (common : Common) (ending : Ending) (events : List Event) (readings : List ℕ) (status : Status) (faults faults' quiets quiets' : ℕ) (is_closed : Bool) (sink sink' : ℕ) (old new : Option (List ℕ)) → Happens common ending events readings → Causes ending faults faults' quiets quiets' is_closed → Reports ending status old new → (status.0 ≡ 8 → Rose 1 sink sink') → HasCome events → ¬ Rose 1 faults faults' → ¬ Rose 1 sink sink' → IsServed status
 IsServed-HasCome common ending events readings status faults faults' quiets quiets' is_closed sink sink' old new happens causes (inr (inl eight, front)) failed came port_well sink_well = absurd (sink_well (failed eight))
 IsServed-HasCome common ending events readings status faults faults' quiets quiets' is_closed sink sink' old new happens causes (inr (inr nine, front)) failed came port_well sink_well = inr nine
-IsServed-HasCome common (Answered count) events readings status faults faults' quiets quiets' is_closed sink sink' old new happens causes (inl (is, whole)) failed came port_well sink_well = inl is
-IsServed-HasCome common (Silent why) events readings status faults faults' quiets quiets' is_closed sink sink' old new happens causes (inl (is, whole)) failed came port_well sink_well = inl is
-IsServed-HasCome common Ignored events readings status faults faults' quiets quiets' is_closed sink sink' old new happens causes (inl (is, whole)) failed came port_well sink_well = inl is
-IsServed-HasCome common Limited events readings status faults faults' quiets quiets' is_closed sink sink' old new happens causes (inl (is, whole)) failed came port_well sink_well = inl is
-IsServed-HasCome common NoMemory events readings status faults faults' quiets quiets' is_closed sink sink' old new happens causes (inl (is, whole)) failed came port_well sink_well = inr is
-IsServed-HasCome common PortFailed events readings status faults faults' quiets quiets' is_closed sink sink' old new happens causes (inl (is, whole)) failed came port_well sink_well = absurd (port_well (causes.failed refl))
-IsServed-HasCome common Quiet events readings status faults faults' quiets quiets' is_closed sink sink' old new (inl comes) causes (inl (is, whole)) failed came port_well sink_well = absurd comes.follows
-IsServed-HasCome common Quiet events readings status faults faults' quiets quiets' is_closed sink sink' old new (inr (only, none)) causes (inl (is, whole)) failed came port_well sink_well = absurd (silences_only PATIENCE events only came)
-IsServed-HasCome common Closed events readings status faults faults' quiets quiets' is_closed sink sink' old new (inl comes) causes (inl (is, whole)) failed came port_well sink_well = absurd comes.follows
-IsServed-HasCome common Closed events readings status faults faults' quiets quiets' is_closed sink sink' old new (inr (only, none)) causes (inl (is, whole)) failed came port_well sink_well = absurd (silences_only only.0 events only.2 came)
-IsServed-HasCome common Words events readings status faults faults' quiets quiets' is_closed sink sink' old new (inl comes) causes (inl (is, whole)) failed came port_well sink_well = absurd comes.follows
-IsServed-HasCome common Words events readings status faults faults' quiets quiets' is_closed sink sink' old new (inr (only, none)) causes (inl (is, whole)) failed came port_well sink_well = absurd only
-IsServed-HasCome common HostFailed events readings status faults faults' quiets quiets' is_closed sink sink' old new (inl comes) causes (inl (is, whole)) failed came port_well sink_well = absurd comes.follows
-IsServed-HasCome common HostFailed events readings status faults faults' quiets quiets' is_closed sink sink' old new (inr (only, none)) causes (inl (is, whole)) failed came port_well sink_well = absurd only
+IsServed-HasCome common ending events readings status faults faults' quiets quiets' is_closed sink sink' old new (inr (why, same, only, unread)) causes (inl (is, whole)) failed came port_well sink_well = absurd (none_came why events only came)
+IsServed-HasCome common (Answered count) events readings status faults faults' quiets quiets' is_closed sink sink' old new (inl comes) causes (inl (is, whole)) failed came port_well sink_well = inl is
+IsServed-HasCome common (Silent why) events readings status faults faults' quiets quiets' is_closed sink sink' old new (inl comes) causes (inl (is, whole)) failed came port_well sink_well = inl is
+IsServed-HasCome common (Failed NoMemory) events readings status faults faults' quiets quiets' is_closed sink sink' old new (inl comes) causes (inl (is, whole)) failed came port_well sink_well = inr is
+IsServed-HasCome common (Failed Port) events readings status faults faults' quiets quiets' is_closed sink sink' old new (inl comes) causes (inl (is, whole)) failed came port_well sink_well = absurd (port_well (causes.failed refl))
+IsServed-HasCome common (Failed _) events readings status faults faults' quiets quiets' is_closed sink sink' old new (inl comes) causes (inl (is, whole)) failed came port_well sink_well = absurd comes.follows

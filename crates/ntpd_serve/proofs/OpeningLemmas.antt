@@ -29,12 +29,14 @@ use Rattle.server_core.specs.States.{ServerState, reply_to}
 use Rattle.server_core.specs.Verdicts.{basis_of, drawn, is_denied, rate_verdict, rows_touched}
 use Rattle.net_addr.specs.declared.addr.Addr.{Addr}
 use Rattle.edge_traits.specs.declared.port.Event.{Event}
-use Rattle.ntpd_serve.specs.declared.due.Due.{Due}
-use Rattle.ntpd_serve.specs.declared.due.Due.TheVariants.{Unheard as UnheardDue, Ignored as IgnoredDue, Limited as LimitedDue, Time as TimeDue, Rate as RateDue, Grams as GramsDue}
+use Rattle.server_core.specs.declared.response.Response.{Response}
+use Rattle.server_core.specs.declared.response.Response.TheVariants.{Silent as NoAnswer}
+use Rattle.server_core.specs.declared.response.Silence.TheVariants.{Ignored as IgnoredAsk, Limited as LimitedAsk}
+use Rattle.server_core.specs.declared.request.Request.TheVariants.{Time as TimeRequest, Look as LookRequest}
+use Rattle.server_core.specs.Responses.{response_of, response_to}
 use Rattle.ntpd_serve.specs.declared.ending.Ending.{Ending}
-use Rattle.ntpd_serve.specs.declared.ending.Ending.TheVariants.{Ignored as IgnoredEnd, Limited as LimitedEnd}
+use Rattle.ntpd_serve.specs.declared.ending.Ending.TheVariants.{Silent}
 use Rattle.ntpd_serve.specs.declared.once.Common.{Common}
-use Rattle.ntpd_serve.specs.Due.{IsDueTo, due_by, due_with}
 use Rattle.ntpd_serve.specs.Once.{IsOpeningState, Follows, context_at}
 
 -- of two rules without flags, whichever has the address, or neither, it has none
@@ -80,31 +82,24 @@ reply_to-Look origin s asked context opening =
     let judged : ℕ → Answer = λ flags. cond (has_flag flags IGNORE || has_flag flags NOQUERY) IgnoredLook given in
     ap Looked (ap judged (flags_of-opening origin s.published asked.from.ip opening.published))
 
--- what is due is no refusal
-abbrev IsHeard : Due → Type 0
-IsHeard IgnoredDue = ⊥
-IsHeard LimitedDue = ⊥
-IsHeard (UnheardDue why) = Unit {0}
-IsHeard (TimeDue ask basis) = Unit {0}
-IsHeard (RateDue ask) = Unit {0}
-IsHeard (GramsDue grams) = Unit {0}
+-- a response that is no refusal
+abbrev IsHeard : Response → Type 0
+IsHeard (NoAnswer IgnoredAsk) = ⊥
+IsHeard (NoAnswer LimitedAsk) = ⊥
+IsHeard _ = Unit {0}
 
-IsHeard-due : (origin : Ntp64) (s : ServerState) (context : Context) (class : Class) (due : Due) → IsOpeningState origin s → IsDueTo s context class due → IsHeard due
-IsHeard-due origin s context (SilentClass why) due opening same = subst IsHeard (sym same) tt
-IsHeard-due origin s context (TimeClass ask) due opening (verdict, replied, same) =
-    let judged : Time verdict ≡ Time (Served (basis_of s.published)) = sym replied ∙ reply_to-Arrive origin s ask context.moment opening in
-    let served : verdict ≡ Served (basis_of s.published) = cc judged in
-    subst IsHeard (sym (same ∙ ap (due_by ask) served)) tt
-IsHeard-due origin s context (LookClass asked) due opening (answer, replied, same) =
-    let looked : Looked answer ≡ Looked (Given s.published.epoch (gram_of s.published asked ∷ [])) = sym replied ∙ reply_to-Look origin s asked context opening in
-    let given : answer ≡ Given s.published.epoch (gram_of s.published asked ∷ []) = cc looked in
-    subst IsHeard (sym (same ∙ ap due_with given)) tt
+IsHeard-response : (origin : Ntp64) (s : ServerState) (context : Context) (class : Class) (response : Response) → IsOpeningState origin s → response ≡ response_of s context class → IsHeard response
+IsHeard-response origin s context (SilentClass why) response opening same = subst IsHeard (sym same) tt
+IsHeard-response origin s context (TimeClass ask) response opening same =
+    subst IsHeard (sym (same ∙ ap (response_to (TimeRequest ask)) (reply_to-Arrive origin s ask context.moment opening))) tt
+IsHeard-response origin s context (LookClass asked) response opening same =
+    subst IsHeard (sym (same ∙ ap (response_to LookRequest) (reply_to-Look origin s asked context opening))) tt
 
 -- so no call ends by a refusal
 pub unrefused-Follows : (common : Common) (s : ServerState) (ending : Ending) (from : Addr) (octets : List ℕ) (events : List Event) (readings : List ℕ)
-    → IsOpeningState common.origin s → Follows common s ending from octets events readings → (ending ≢ IgnoredEnd) × (ending ≢ LimitedEnd)
+    → IsOpeningState common.origin s → Follows common s ending from octets events readings → (ending ≢ Silent IgnoredAsk) × (ending ≢ Silent LimitedAsk)
 unrefused-Follows common s ending from octets events readings opening follows =
     let At : Ending → Type 0 = λ other. Follows common s other from octets events readings in (
-      λ ignored. let none = subst At ignored follows in IsHeard-due common.origin s (context_at common none.came) none.is_due.0 IgnoredDue opening none.is_due.2,
-      λ limited. let none = subst At limited follows in IsHeard-due common.origin s (context_at common none.came) none.is_due.0 LimitedDue opening none.is_due.2,
+      λ ignored. let none = subst At ignored follows in IsHeard-response common.origin s (context_at common none.came) none.is_response.0 (NoAnswer IgnoredAsk) opening none.is_response.2,
+      λ limited. let none = subst At limited follows in IsHeard-response common.origin s (context_at common none.came) none.is_response.0 (NoAnswer LimitedAsk) opening none.is_response.2,
     )

@@ -6,7 +6,8 @@ use Rattle.net_addr.specs.Spelling.{IsAddr, Spells}
 use Rattle.net_addr.specs.declared.addr.Addr.{Addr}
 use Rattle.ntpd_serve.specs.declared.once.Common.{Common}
 use Rattle.ntpd_serve.specs.declared.ending.Ending.{Ending}
-use Rattle.ntpd_serve.specs.declared.ending.Ending.TheVariants.{Words, HostFailed, NoMemory}
+use Rattle.ntpd_serve.specs.declared.ending.Ending.TheVariants.{Failed}
+use Rattle.ntpd_serve.specs.declared.ending.Failure.TheVariants.{Words, Host, NoMemory}
 
 -- the words are `once` and a text that spells this address, with its port
 pub record AsksOnce (words : List (List ℕ)) (at : Addr) : Type 0 where
@@ -21,12 +22,12 @@ IsNoCommand words = (at : Addr) → ¬ (AsksOnce words at)
 
 -- the host gave no port
 abbrev pub IsHostEnding : Ending → Type 0
-IsHostEnding ending = (ending ≡ HostFailed) ⊎ (ending ≡ NoMemory)
+IsHostEnding ending = (ending ≡ Failed Host) ⊎ (ending ≡ Failed NoMemory)
 
 -- how a run ends before it has a port: by its words, or where the host gave none for them
 abbrev pub EndsBefore : Ending → List (List ℕ) → Type 0
 EndsBefore ending words =
-    ((ending ≡ Words) × IsNoCommand words) ⊎ (((at : Addr) × AsksOnce words at) × IsHostEnding ending)
+    ((ending ≡ Failed Words) × IsNoCommand words) ⊎ (((at : Addr) × AsksOnce words at) × IsHostEnding ending)
 
 -- what a run of `once` knows: no keys, and the host's secret and origin
 abbrev pub common_of : Salt → Ntp64 → Common

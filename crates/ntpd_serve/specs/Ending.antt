@@ -4,10 +4,14 @@ use Rattle.edge_traits.specs.Told.{gained, GainedFront}
 use Rattle.edge_traits.specs.declared.status.Status.{Status}
 use Rattle.server_core.specs.declared.class.Unheard.{Unheard}
 use Rattle.server_core.specs.declared.class.Unheard.TheVariants.{Packet, Trailer, Frame, Unserved, NotRequest}
+use Rattle.server_core.specs.declared.response.Silence.{Silence}
+use Rattle.server_core.specs.declared.response.Silence.TheVariants.{Unheard as NotHeard, Ignored, Limited}
 use Rattle.ntpd_serve.specs.declared.ending.Ending.{Ending}
-use Rattle.ntpd_serve.specs.declared.ending.Ending.TheVariants.{Answered, Silent, Ignored, Limited, Words, HostFailed, PortFailed, Quiet, Closed, NoMemory}
+use Rattle.ntpd_serve.specs.declared.ending.Ending.TheVariants.{Answered, Silent, Failed}
+use Rattle.ntpd_serve.specs.declared.ending.Failure.{Failure}
+use Rattle.ntpd_serve.specs.declared.ending.Failure.TheVariants.{Words, Host, Port, Quiet, Closed, NoMemory}
 
--- why a datagram got no answer
+-- why a datagram is not heard
 abbrev pub unheard_text : Unheard → List ℕ
 unheard_text (Packet number) = codes "packet " ++ decimal number
 unheard_text (Trailer number) = codes "trailer " ++ decimal number
@@ -15,35 +19,44 @@ unheard_text (Frame number) = codes "frame " ++ decimal number
 unheard_text (Unserved mode) = codes "unserved " ++ decimal mode
 unheard_text NotRequest = codes "not-request"
 
+-- why a datagram got no answer
+abbrev pub silence_text : Silence → List ℕ
+silence_text (NotHeard why) = unheard_text why
+silence_text Ignored = codes "ignored"
+silence_text Limited = codes "limited"
+
+-- why no datagram was served
+abbrev pub failure_text : Failure → List ℕ
+failure_text Words = codes "words"
+failure_text Host = codes "host"
+failure_text Port = codes "port"
+failure_text Quiet = codes "quiet"
+failure_text Closed = codes "closed"
+failure_text NoMemory = codes "memory"
+
 -- what is printed of an ending
 abbrev pub ending_text : Ending → List ℕ
 ending_text (Answered count) = codes "answered " ++ decimal count
-ending_text (Silent why) = codes "silent " ++ unheard_text why
-ending_text Ignored = codes "silent ignored"
-ending_text Limited = codes "silent limited"
-ending_text Words = codes "ntpd: words"
-ending_text HostFailed = codes "ntpd: host"
-ending_text PortFailed = codes "ntpd: port"
-ending_text Quiet = codes "ntpd: quiet"
-ending_text Closed = codes "ntpd: closed"
-ending_text NoMemory = codes "ntpd: memory"
+ending_text (Silent why) = codes "silent " ++ silence_text why
+ending_text (Failed why) = codes "ntpd: " ++ failure_text why
 
 -- as a line
 unfoldable pub line_of : Ending → List ℕ
 line_of ending = ending_text ending ++ 10 ∷ []
 
+-- the exit status of a failure
+abbrev pub failure_status : Failure → ℕ
+failure_status Words = 1
+failure_status Host = 3
+failure_status Port = 4
+failure_status Quiet = 6
+failure_status Closed = 7
+failure_status NoMemory = 9
+
 -- the exit status, where the line was written
 abbrev pub status_of : Ending → ℕ
-status_of (Answered count) = 0
-status_of (Silent why) = 0
-status_of Ignored = 0
-status_of Limited = 0
-status_of Words = 1
-status_of HostFailed = 3
-status_of PortFailed = 4
-status_of Quiet = 6
-status_of Closed = 7
-status_of NoMemory = 9
+status_of (Failed why) = failure_status why
+status_of _ = 0
 
 -- the sink has the ending's whole line, and the status is the ending's; or the sink's fault is the status, and the sink has a front of the line
 abbrev pub Reports : Ending → Status → Option (List ℕ) → Option (List ℕ) → Type 0

@@ -1,5 +1,4 @@
 pub mod Ending
-pub mod Due
 pub mod Once
 pub mod Command
 pub mod Usage

@@ -11,11 +11,15 @@ use Rattle.recency.specs.declared.limits.Limits.{Limits}
 use Rattle.sys_vars.specs.Opening.{IsOpening}
 use Rattle.sys_vars.specs.declared.context.Context.{Context}
 use Rattle.server_core.specs.States.{ServerState}
-use Rattle.ntpd_serve.specs.Due.{IsDue, IsGram}
-use Rattle.ntpd_serve.specs.declared.due.Due.{Due}
-use Rattle.ntpd_serve.specs.declared.due.Due.TheVariants.{Unheard, Ignored as IgnoredDue, Limited as LimitedDue}
+use Rattle.server_core.specs.declared.response.Response.{Response}
+use Rattle.server_core.specs.declared.response.Response.TheVariants.{Silent as NoAnswer}
+use Rattle.server_core.specs.declared.response.Silence.{Silence}
+use Rattle.server_core.specs.declared.response.Silence.TheVariants.{Ignored, Limited}
+use Rattle.server_core.specs.Responses.{IsResponse, grams_of}
 use Rattle.ntpd_serve.specs.declared.ending.Ending.{Ending}
-use Rattle.ntpd_serve.specs.declared.ending.Ending.TheVariants.{Answered, Silent, Ignored, Limited, Words, HostFailed, PortFailed, Quiet, Closed, NoMemory}
+use Rattle.ntpd_serve.specs.declared.ending.Ending.TheVariants.{Answered, Silent, Failed}
+use Rattle.ntpd_serve.specs.declared.ending.Failure.{Failure}
+use Rattle.ntpd_serve.specs.declared.ending.Failure.TheVariants.{Words, Host, Port, Quiet, Closed, NoMemory}
 use Rattle.ntpd_serve.specs.declared.once.Common.{Common}
 use Rattle.ntpd_serve.specs.declared.once.TheConstants.{PATIENCE}
 
@@ -45,18 +49,18 @@ context_at common came = record { salt = common.salt; origin = common.origin; mo
 -- The datagram is answered by this one. The clock was read when the datagram was classed, and again
 -- before the answer was given.
 pub record IsAnswer (common : Common) (s : ServerState) (from : Addr) (octets : List ℕ) (readings : List ℕ) (gram : List ℕ) : Type 0 where
-  pub due : Due
+  pub response : Response
   pub came : ℕ
   pub sent : ℕ
   pub read : readings ≡ came ∷ sent ∷ []
-  pub is_due : IsDue s common.keys (context_at common came) from octets due
-  pub is : IsGram common.keys came sent due gram
+  pub is_response : IsResponse s common.keys (context_at common came) from octets response
+  pub one : grams_of common.keys came sent response ≡ gram ∷ []
 
--- The datagram is due no answer, for this reason, and none is given. The clock was read once.
-pub record IsUnanswered (common : Common) (s : ServerState) (from : Addr) (octets : List ℕ) (due : Due) (events : List Event) (readings : List ℕ) : Type 0 where
+-- The datagram gets no answer, for this reason, and none is given. The clock was read once.
+pub record IsUnanswered (common : Common) (s : ServerState) (from : Addr) (octets : List ℕ) (why : Silence) (events : List Event) (readings : List ℕ) : Type 0 where
   pub came : ℕ
   pub read : readings ≡ came ∷ []
-  pub is_due : IsDue s common.keys (context_at common came) from octets due
+  pub is_response : IsResponse s common.keys (context_at common came) from octets (NoAnswer why)
   pub none : events ≡ []
 
 -- what follows a datagram at the port of a server in this state, and what is read of the clock, by how the call ends
@@ -65,18 +69,11 @@ Follows common s (Answered count) from octets events readings =
     (gram : List ℕ) × IsAnswer common s from octets readings gram
     × (events ≡ Sent from gram ∷ []) × (count ≡ 1)
 Follows common s (Silent why) from octets events readings =
-    IsUnanswered common s from octets (Unheard why) events readings
-Follows common s Ignored from octets events readings =
-    IsUnanswered common s from octets IgnoredDue events readings
-Follows common s Limited from octets events readings =
-    IsUnanswered common s from octets LimitedDue events readings
-Follows common s PortFailed from octets events readings =
+    IsUnanswered common s from octets why events readings
+Follows common s (Failed Port) from octets events readings =
     (gram : List ℕ) × IsAnswer common s from octets readings gram × (events ≡ [])
-Follows common s NoMemory from octets events readings = events ≡ []
-Follows common s Words from octets events readings = ⊥
-Follows common s HostFailed from octets events readings = ⊥
-Follows common s Quiet from octets events readings = ⊥
-Follows common s Closed from octets events readings = ⊥
+Follows common s (Failed NoMemory) from octets events readings = events ≡ []
+Follows common s (Failed _) from octets events readings = ⊥
 
 -- a datagram came after fewer silences than end the call, to a server that has just begun and so refuses nobody
 pub record Comes (common : Common) (ending : Ending) (events : List Event) (readings : List ℕ) : Type 0 where
@@ -89,65 +86,47 @@ pub record Comes (common : Common) (ending : Ending) (events : List Event) (read
   pub in_time : quiets < PATIENCE
   pub gained : events ≡ silences quiets ++ Took from octets ∷ after
   pub follows : Follows common server ending from octets after readings
-  pub unrefused : (ending ≢ Ignored) × (ending ≢ Limited)
+  pub unrefused : (ending ≢ Silent Ignored) × (ending ≢ Silent Limited)
 
--- nothing but silences came, by how the call ends
-abbrev pub OnlySilences : Ending → List Event → Type 0
+-- nothing but silences came, by why the call gives up
+abbrev pub OnlySilences : Failure → List Event → Type 0
 OnlySilences Quiet events = events ≡ silences PATIENCE
-OnlySilences PortFailed events = (quiets : ℕ) × (quiets < PATIENCE) × (events ≡ silences quiets)
-OnlySilences Closed events = (quiets : ℕ) × (quiets < PATIENCE) × (events ≡ silences quiets)
-OnlySilences NoMemory events = (quiets : ℕ) × (quiets < PATIENCE) × (events ≡ silences quiets)
-OnlySilences (Answered count) events = ⊥
-OnlySilences (Silent why) events = ⊥
-OnlySilences Ignored events = ⊥
-OnlySilences Limited events = ⊥
 OnlySilences Words events = ⊥
-OnlySilences HostFailed events = ⊥
+OnlySilences Host events = ⊥
+OnlySilences _ events = (quiets : ℕ) × (quiets < PATIENCE) × (events ≡ silences quiets)
 
 -- what one call does at the port and the clock, by how it ends
 abbrev pub Happens : Common → Ending → List Event → List ℕ → Type 0
 Happens common ending events readings =
-    Comes common ending events readings ⊎ (OnlySilences ending events × (readings ≡ []))
+    Comes common ending events readings
+    ⊎ ((why : Failure) × (ending ≡ Failed why) × OnlySilences why events × (readings ≡ []))
 
 -- one datagram was given, or the port failed or had no memory
 abbrev pub GivesOne : Ending → Addr → List ℕ → List Event → Type 0
 GivesOne (Answered count) to octets events = (events ≡ Sent to octets ∷ []) × (count ≡ 1)
-GivesOne PortFailed to octets events = events ≡ []
-GivesOne NoMemory to octets events = events ≡ []
-GivesOne (Silent why) to octets events = ⊥
-GivesOne Ignored to octets events = ⊥
-GivesOne Limited to octets events = ⊥
-GivesOne Words to octets events = ⊥
-GivesOne HostFailed to octets events = ⊥
-GivesOne Quiet to octets events = ⊥
-GivesOne Closed to octets events = ⊥
+GivesOne (Failed Port) to octets events = events ≡ []
+GivesOne (Failed NoMemory) to octets events = events ≡ []
+GivesOne _ to octets events = ⊥
 
--- What is done about what a datagram is due that came at one moment, by how the call ends: where
--- anything is given, the clock is read before.
-abbrev pub GivesDue : List Key → ℕ → Due → Ending → Addr → List Event → List ℕ → Type 0
-GivesDue keys came due (Answered count) to events readings =
-    (gram : List ℕ) × (sent : ℕ) × IsGram keys came sent due gram
+-- What is done about the response to what came at one moment, by how the call ends: where anything is
+-- given, the clock is read before.
+abbrev pub GivesResponse : List Key → ℕ → Response → Ending → Addr → List Event → List ℕ → Type 0
+GivesResponse keys came response (Answered count) to events readings =
+    (gram : List ℕ) × (sent : ℕ) × (grams_of keys came sent response ≡ gram ∷ [])
     × (events ≡ Sent to gram ∷ []) × (count ≡ 1) × (readings ≡ sent ∷ [])
-GivesDue keys came due PortFailed to events readings =
-    (gram : List ℕ) × (sent : ℕ) × IsGram keys came sent due gram
+GivesResponse keys came response (Silent why) to events readings =
+    (response ≡ NoAnswer why) × (events ≡ []) × (readings ≡ [])
+GivesResponse keys came response (Failed Port) to events readings =
+    (gram : List ℕ) × (sent : ℕ) × (grams_of keys came sent response ≡ gram ∷ [])
     × (events ≡ []) × (readings ≡ sent ∷ [])
-GivesDue keys came due NoMemory to events readings = events ≡ []
-GivesDue keys came due (Silent why) to events readings =
-    (due ≡ Unheard why) × (events ≡ []) × (readings ≡ [])
-GivesDue keys came due Ignored to events readings =
-    (due ≡ IgnoredDue) × (events ≡ []) × (readings ≡ [])
-GivesDue keys came due Limited to events readings =
-    (due ≡ LimitedDue) × (events ≡ []) × (readings ≡ [])
-GivesDue keys came due Words to events readings = ⊥
-GivesDue keys came due HostFailed to events readings = ⊥
-GivesDue keys came due Quiet to events readings = ⊥
-GivesDue keys came due Closed to events readings = ⊥
+GivesResponse keys came response (Failed NoMemory) to events readings = events ≡ []
+GivesResponse keys came response (Failed _) to events readings = ⊥
 
 -- what stands behind an ending: faults of the port that rose, takes that found nothing, or its end
 pub record Causes (ending : Ending) (faults faults' quiets quiets' : ℕ) (is_closed : Bool) : Type 0 where
-  pub failed : ending ≡ PortFailed → Rose 1 faults faults'
-  pub quiet : ending ≡ Quiet → Rose PATIENCE quiets quiets'
-  pub closed : ending ≡ Closed → IsTrue is_closed
+  pub failed : ending ≡ Failed Port → Rose 1 faults faults'
+  pub quiet : ending ≡ Failed Quiet → Rose PATIENCE quiets quiets'
+  pub closed : ending ≡ Failed Closed → IsTrue is_closed
 
 -- a datagram was taken
 abbrev pub HasCome : List Event → Type 0

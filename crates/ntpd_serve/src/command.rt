@@ -6,8 +6,9 @@ ghost use Rattle.ntpd_serve.specs.Ending.{Reports, status_of};
 ghost use Rattle.ntpd_serve.specs.Once.{Happens, HasCome, IsServed};
 ghost use Rattle.ntpd_serve.specs.Command.{AsksOnce, IsNoCommand, EndsBefore, IsHostEnding, common_of};
 ghost use Rattle.ntpd_serve.specs.declared.ending.Ending.{Ending};
+ghost use Rattle.ntpd_serve.specs.declared.ending.Failure.{Failure};
 
-use crate::ending::Ending;
+use crate::ending::{Ending, Failure};
 use crate::once::{Common, PATIENCE, serve_once};
 use crate::report::report;
 use edge_traits::{Clock, Gate, Host, HostFault, Port, Sink, Status};
@@ -63,7 +64,8 @@ pub fn ntpd<R: Threads + Wait, H: Host, S: Sink, G: Gate>(
         × (H.binds host.new ≡ H.binds host.old)
         × Reports ending result.status (S.contents out.old) (S.contents out.new)) }
     ensures no_command { IsNoCommand (map string_bytes words.now) → IsNone result.single
-        × Reports Ending.Words result.status (S.contents out.old) (S.contents out.new) }
+        × Reports (Ending.Failed Failure.Words) result.status
+        (S.contents out.old) (S.contents out.new) }
 
     // Each status that is a fault has its cause.
     ensures words { result.status.0 ≡ 1 → IsNoCommand (map string_bytes words.now) }
@@ -77,7 +79,7 @@ pub fn ntpd<R: Threads + Wait, H: Host, S: Sink, G: Gate>(
     ensures sink_failed { result.status.0 ≡ 8 → Rose 1 (S.faults out.old) (S.faults out.new) }
 {
     match once_address(words) {
-        None => ended_before(&Ending::Words, out),
+        None => ended_before(&Ending::Failed(Failure::Words), out),
         Some(at) => once(alloc, &at, host, out),
     }
 }
@@ -181,8 +183,8 @@ fn once<H: Host, S: Sink>(alloc: Global, at: &Addr, host: &mut H, out: &mut S) -
     ensures sink_failed { result.status.0 ≡ 8 → Rose 1 (S.faults out.old) (S.faults out.new) }
 {
     match host.bind(at) {
-        Err(HostFault::Failed) => ended_before(&Ending::HostFailed, out),
-        Err(HostFault::NoMemory) => ended_before(&Ending::NoMemory, out),
+        Err(HostFault::Failed) => ended_before(&Ending::Failed(Failure::Host), out),
+        Err(HostFault::NoMemory) => ended_before(&Ending::Failed(Failure::NoMemory), out),
         Ok(port) => {
             let clock = host.clock();
             let common = Common {

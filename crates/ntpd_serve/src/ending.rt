@@ -1,26 +1,29 @@
 ghost use Rattle.std.specs.Prelude.{◌≡◌};
-ghost use Rattle.ntpd_serve.specs.Ending.{status_of};
+ghost use Rattle.ntpd_serve.specs.Ending.{failure_status, status_of};
 
 use edge_traits::Status;
-use server_core::Unheard;
+use server_core::Silence;
 
 /// How a run of `ntpd` ended.
 #[derive(Clone, Copy, Debug, PartialEq, Eq)]
 pub enum Ending {
     /// It gave an answer of so many datagrams.
     Answered(u8),
-    /// The datagram gets no answer: it is not heard.
-    Silent(Unheard),
-    /// The datagram gets no answer: the restrict flags of its sender refuse it.
-    Ignored,
-    /// The datagram gets no answer: its sender is over its rate.
-    Limited,
+    /// The datagram gets no answer, for this reason.
+    Silent(Silence),
+    /// It did not come to serve one, or could not.
+    Failed(Failure),
+}
+
+/// Why a run of `ntpd` served no datagram.
+#[derive(Clone, Copy, Debug, PartialEq, Eq)]
+pub enum Failure {
     /// The words are no command.
     Words,
     /// The host failed.
-    HostFailed,
+    Host,
     /// The port failed.
-    PortFailed,
+    Port,
     /// So many takes in a row found nothing that the run gave up.
     Quiet,
     /// The port was closed.
@@ -33,13 +36,21 @@ pub enum Ending {
 pub fn status_of(ending: &Ending) -> Status
     ensures { result.0 ≡ status_of ending.now }
 {
-    Status(match ending {
-        Ending::Answered(_) | Ending::Silent(_) | Ending::Ignored | Ending::Limited => 0,
-        Ending::Words => 1,
-        Ending::HostFailed => 3,
-        Ending::PortFailed => 4,
-        Ending::Quiet => 6,
-        Ending::Closed => 7,
-        Ending::NoMemory => 9,
+    match ending {
+        Ending::Answered(_) | Ending::Silent(_) => Status(0),
+        Ending::Failed(why) => failure_status(why),
+    }
+}
+
+fn failure_status(why: &Failure) -> Status
+    ensures { result.0 ≡ failure_status why.now }
+{
+    Status(match why {
+        Failure::Words => 1,
+        Failure::Host => 3,
+        Failure::Port => 4,
+        Failure::Quiet => 6,
+        Failure::Closed => 7,
+        Failure::NoMemory => 9,
     })
 }

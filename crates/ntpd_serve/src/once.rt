@@ -1,24 +1,26 @@
 ghost use Rattle.std.specs.Prelude.{◌≡◌, ◌≤◌, ◌<◌, ℕ, List, [], ◌∷◌, ◌++◌, IsTrue, IfOk, IfErr};
+ghost use Rattle.edge_traits.specs.Ports.{IsPortKept};
 ghost use Rattle.edge_traits.specs.Told.{gained, Grows, Rose};
 ghost use Rattle.edge_traits.specs.declared.port.Event.{Event};
 ghost use Rattle.edge_traits.specs.declared.port.Event.TheVariants.{Took};
+ghost use Rattle.sys_vars.specs.declared.context.Context.{Context};
+ghost use Rattle.server_core.specs.Books.{IsOpen};
 ghost use Rattle.server_core.specs.Class.{IsClass};
 ghost use Rattle.server_core.specs.declared.class.Class.{Class};
 ghost use Rattle.server_core.specs.declared.class.Unheard.{Unheard};
-ghost use Rattle.ntpd_serve.specs.Due.{IsOpen};
+ghost use Rattle.ntpd_serve.specs.declared.ending.Ending.{Ending};
 ghost use Rattle.ntpd_serve.specs.Ending.{Reports};
 ghost use Rattle.ntpd_serve.specs.Once.{silences, context_at, Follows, Happens, OnlySilences, Causes, HasCome, IsOpeningState, IsServed};
 
-use crate::due::take_to;
-use crate::ending::Ending;
-use crate::giving::give_due;
+use crate::ending::{Ending, Failure};
 use crate::report::report;
+use crate::sending::send_response;
 use edge_traits::{Clock, Octets, Port, PortFault, Salt, Sink, Status, Taken};
 use fixed_time::Ntp64;
 use mac_keys::KeyTable;
 use net_addr::Addr;
 use recency::Limits;
-use server_core::Book;
+use server_core::{Book, respond};
 use std::alloc::{AllocError, Global};
 use sys_vars::{Context, Record};
 
@@ -36,8 +38,8 @@ pub struct Common {
     pub origin: Ntp64,
 }
 
-/// Serves one datagram by a server that has just begun, and prints what became of it. It gives up after 60
-/// takes that found nothing.
+/// Serves one datagram by a server that has just begun, and prints what became of it. It gives up
+/// after 60 takes that found nothing.
 pub fn serve_once<P: Port, C: Clock, S: Sink>(
     alloc: Global,
     port: &mut P,
@@ -63,17 +65,15 @@ pub fn serve_once<P: Port, C: Clock, S: Sink>(
     ensures closed { result.0 ≡ 7 → IsTrue (P.is_closed port.new) }
     ensures sink_failed { result.0 ≡ 8 → Rose 1 (S.faults out.old) (S.faults out.new) }
 
-    ensures faults_kept { P.faults port.old ≤ P.faults port.new }
-    ensures quiets_kept { P.quiets port.old ≤ P.quiets port.new }
+    ensures kept { IsPortKept P.faults P.quiets P.address P.most port.old port.new }
     ensures sink_faults_kept { S.faults out.old ≤ S.faults out.new }
-    ensures address_kept { P.address port.new ≡ P.address port.old }
 {
-    let ending = answer_one(alloc, port, clock, common);
+    let ending = begin_and_serve(alloc, port, clock, common);
     report(&ending, out)
 }
 
-/// Takes until a datagram comes, and answers it by a server that has just begun.
-fn answer_one<P: Port, C: Clock>(
+/// Takes until a datagram comes, and serves it by a server that has just begun.
+fn begin_and_serve<P: Port, C: Clock>(
     alloc: Global,
     port: &mut P,
     clock: &mut C,
@@ -86,13 +86,11 @@ fn answer_one<P: Port, C: Clock>(
         × Grows (C.readings clock.old) (C.readings clock.new) readings }
     ensures causes { Causes result (P.faults port.old) (P.faults port.new)
         (P.quiets port.old) (P.quiets port.new) (P.is_closed port.new) }
-    ensures faults_kept { P.faults port.old ≤ P.faults port.new }
-    ensures quiets_kept { P.quiets port.old ≤ P.quiets port.new }
-    ensures address_kept { P.address port.new ≡ P.address port.old }
+    ensures kept { IsPortKept P.faults P.quiets P.address P.most port.old port.new }
 {
     match opening_book(alloc, common.origin) {
-        Err(_) => Ending::NoMemory,
-        Ok(mut book) => answer_by(alloc, port, clock, common, &mut book),
+        Err(_) => Ending::Failed(Failure::NoMemory),
+        Ok(mut book) => serve_next(alloc, port, clock, common, &mut book),
     }
 }
 
@@ -105,8 +103,8 @@ fn opening_book(alloc: Global, origin: Ntp64) -> Result<Book, AllocError>
     Book::begin(alloc, record, Limits::plain(), origin)
 }
 
-/// Takes until a datagram comes, and answers it by this server.
-fn answer_by<P: Port, C: Clock>(
+/// Takes until a datagram comes, and serves it by this server.
+fn serve_next<P: Port, C: Clock>(
     alloc: Global,
     port: &mut P,
     clock: &mut C,
@@ -122,45 +120,41 @@ fn answer_by<P: Port, C: Clock>(
         × Grows (C.readings clock.old) (C.readings clock.new) readings }
     ensures causes { Causes result (P.faults port.old) (P.faults port.new)
         (P.quiets port.old) (P.quiets port.new) (P.is_closed port.new) }
-    ensures faults_kept { P.faults port.old ≤ P.faults port.new }
-    ensures quiets_kept { P.quiets port.old ≤ P.quiets port.new }
-    ensures address_kept { P.address port.new ≡ P.address port.old }
+    ensures kept { IsPortKept P.faults P.quiets P.address P.most port.old port.new }
 {
     let mut datagram = Octets::new();
-    match wait(port, &mut datagram) {
-        Ok(from) => answer(alloc, port, clock, common, book, &from, &datagram),
-        Err(ending) => ending,
+    match wait_for_datagram(port, &mut datagram) {
+        Ok(from) => serve_datagram(alloc, port, clock, common, book, &from, &datagram),
+        Err(why) => Ending::Failed(why),
     }
 }
 
-/// Takes until a datagram comes, or the call is to end.
-fn wait<P: Port>(port: &mut P, into: &mut Octets) -> Result<Addr, Ending>
+/// Takes until a datagram comes, or the call is to give up.
+fn wait_for_datagram<P: Port>(port: &mut P, into: &mut Octets) -> Result<Addr, Failure>
     ensures came { IfOk result (λ from. (quiets : ℕ) × (quiets < PATIENCE)
         × (P.trace port.new ≡ gained (P.trace port.old) (silences quiets ++ Took from into.new ∷ []))) }
-    ensures ended { IfErr result (λ ending. (events : List Event) × OnlySilences ending events
+    ensures ended { IfErr result (λ why. (events : List Event) × OnlySilences why events
         × (P.trace port.new ≡ gained (P.trace port.old) events)) }
-    ensures causes { IfErr result (λ ending. Causes ending (P.faults port.old) (P.faults port.new)
+    ensures causes { IfErr result (λ why. Causes (Ending.Failed why)
+        (P.faults port.old) (P.faults port.new)
         (P.quiets port.old) (P.quiets port.new) (P.is_closed port.new)) }
-    ensures faults_kept { P.faults port.old ≤ P.faults port.new }
-    ensures quiets_kept { P.quiets port.old ≤ P.quiets port.new }
-    ensures address_kept { P.address port.new ≡ P.address port.old }
-    ensures most_kept { P.most port.new ≡ P.most port.old }
+    ensures kept { IsPortKept P.faults P.quiets P.address P.most port.old port.new }
 {
     'waiting: for _ in 0..PATIENCE {
         match port.take(into) {
             Ok(Taken::Datagram(from)) => return Ok(from),
             Ok(Taken::Quiet) => {}
-            Ok(Taken::Closed) => return Err(Ending::Closed),
-            Err(PortFault::Failed) => return Err(Ending::PortFailed),
-            Err(PortFault::NoMemory) => return Err(Ending::NoMemory),
+            Ok(Taken::Closed) => return Err(Failure::Closed),
+            Err(PortFault::Failed) => return Err(Failure::Port),
+            Err(PortFault::NoMemory) => return Err(Failure::NoMemory),
         }
     }
-    Err(Ending::Quiet)
+    Err(Failure::Quiet)
 }
 
-/// Answers a datagram from this address by this server. The clock is read before the datagram is
+/// Serves a datagram from this address by this server. The clock is read before the datagram is
 /// classed, and again where anything is given.
-fn answer<P: Port, C: Clock>(
+fn serve_datagram<P: Port, C: Clock>(
     alloc: Global,
     port: &mut P,
     clock: &mut C,
@@ -178,17 +172,17 @@ fn answer<P: Port, C: Clock>(
 
     // A datagram that is not heard leaves the server as it was.
     ensures silent { (why : Unheard)
-        → IsClass datagram.now from.now common.now.keys (Class.Silent why) → book.new ≡ book.old }
+        → (context : Context)
+        → IsClass datagram.now from.now common.now.keys context (Class.Silent why)
+        → book.new ≡ book.old }
 
     ensures causes { Causes result (P.faults port.old) (P.faults port.new)
         (P.quiets port.old) (P.quiets port.new) (P.is_closed port.new) }
-    ensures faults_kept { P.faults port.old ≤ P.faults port.new }
-    ensures quiets_kept { P.quiets port.old ≤ P.quiets port.new }
-    ensures address_kept { P.address port.new ≡ P.address port.old }
+    ensures kept { IsPortKept P.faults P.quiets P.address P.most port.old port.new }
 {
     let came = clock.now();
     let context = context_at(common, came);
-    match take_to(
+    match respond(
         alloc,
         book,
         &common.keys,
@@ -196,8 +190,8 @@ fn answer<P: Port, C: Clock>(
         from,
         datagram.as_slice(),
     ) {
-        Err(_) => Ending::NoMemory,
-        Ok(due) => give_due(port, clock, &common.keys, came, &due, from),
+        Err(_) => Ending::Failed(Failure::NoMemory),
+        Ok(response) => send_response(port, clock, &common.keys, came, &response, from),
     }
 }
 

@@ -1,11 +1,11 @@
 ghost use Rattle.std.specs.Prelude.{◌≡◌, ◌≤◌, ◌+◌, length, decimal, ◌++◌, ◌∷◌, []};
 ghost use Rattle.edge_traits.specs.Told.{Rose};
-ghost use Rattle.ntpd_serve.specs.Ending.{line_of, ending_text, unheard_text, Reports};
+ghost use Rattle.ntpd_serve.specs.Ending.{line_of, ending_text, failure_text, silence_text, unheard_text, Reports};
 
-use crate::ending::{Ending, status_of};
+use crate::ending::{Ending, Failure, status_of};
 use edge_traits::{Octets, Sink, SinkFault, Status, write_whole};
 use itoa::Buffer;
-use server_core::Unheard;
+use server_core::{Silence, Unheard};
 
 /// Writes the ending's line, and answers the exit status: the ending's, or 8 where the sink failed,
 /// or 9 where it had no memory.
@@ -41,20 +41,44 @@ fn put_ending(line: &mut Octets, ending: &Ending)
         Ending::Answered(count) => put_numbered(line, b"answered ", *count),
         Ending::Silent(why) => {
             line.put(b"silent ");
-            put_unheard(line, why);
+            put_silence(line, why);
         }
-        Ending::Ignored => line.put(b"silent ignored"),
-        Ending::Limited => line.put(b"silent limited"),
-        Ending::Words => line.put(b"ntpd: words"),
-        Ending::HostFailed => line.put(b"ntpd: host"),
-        Ending::PortFailed => line.put(b"ntpd: port"),
-        Ending::Quiet => line.put(b"ntpd: quiet"),
-        Ending::Closed => line.put(b"ntpd: closed"),
-        Ending::NoMemory => line.put(b"ntpd: memory"),
+        Ending::Failed(why) => {
+            line.put(b"ntpd: ");
+            line.put(failure_word(why));
+        }
     }
 }
 
 /// Appends why a datagram got no answer.
+fn put_silence(line: &mut Octets, why: &Silence)
+    requires { length line.old ≤ 200 }
+    ensures text { line.new ≡ line.old ++ silence_text why.now }
+    ensures short { length line.new ≤ length line.old + 20 }
+{
+    match why {
+        Silence::Unheard(why) => put_unheard(line, why),
+        Silence::Ignored => line.put(b"ignored"),
+        Silence::Limited => line.put(b"limited"),
+    }
+}
+
+/// Why no datagram was served.
+fn failure_word(why: &Failure) -> &'static [u8]
+    ensures word { result.now ≡ failure_text why.now }
+    ensures short { length result.now ≤ 6 }
+{
+    match why {
+        Failure::Words => b"words",
+        Failure::Host => b"host",
+        Failure::Port => b"port",
+        Failure::Quiet => b"quiet",
+        Failure::Closed => b"closed",
+        Failure::NoMemory => b"memory",
+    }
+}
+
+/// Appends why a datagram is not heard.
 fn put_unheard(line: &mut Octets, why: &Unheard)
     requires { length line.old ≤ 200 }
     ensures text { line.new ≡ line.old ++ unheard_text why.now }

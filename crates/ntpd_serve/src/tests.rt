@@ -1,9 +1,11 @@
 //! Whole runs of `ntpd`, over a host in memory and over a real socket.
+ghost use Rattle.std.specs.Prelude.{◌≤◌, length};
+
 use crate::command::{Ended, ntpd};
 use crate::once::{Common, serve_once};
 use edge_traits::{
-    Event, Incoming, MemoryClock, MemoryHost, MemoryPort, MemorySink, Octets, OpenGate, Port, Salt,
-    Status, Taken, UdpPort,
+    Event, Incoming, MAX_OCTETS, MemoryClock, MemoryHost, MemoryPort, MemorySink, Octets, OpenGate,
+    Port, Salt, Status, Taken, UdpPort,
 };
 use fixed_time::Ntp64;
 use mac_keys::{KeyTable, read_keys};
@@ -13,6 +15,9 @@ use std::process::Abort;
 use std::sync::Wait;
 use std::test::Fail;
 use std::thread::Threads;
+
+/// The command of each run, but for those of other words.
+const ONCE: &str = "once 127.0.0.1:123";
 
 /// 1 January 1970 (RFC 5905, figure 4).
 const ORIGIN: Ntp64 = Ntp64(0x83aa_7e80_0000_0000);
@@ -25,22 +30,16 @@ const CLIENT: Addr = Addr {
 };
 
 /// A client's request: version 4, poll 6, precision -23, transmit time ORIGIN.
-const REQUEST: [u8; 48] = [
-    0x23, 0, 6, 0xe9, 0, 0, 0, 0, 0, 0, 0, 0, 0, 0, 0, 0, 0, 0, 0, 0, 0, 0, 0, 0, 0, 0, 0, 0, 0, 0,
-    0, 0, 0, 0, 0, 0, 0, 0, 0, 0, 0x83, 0xaa, 0x7e, 0x80, 0, 0, 0, 0,
-];
+const REQUEST: [u8; 48] = *b"\x23\x00\x06\xe9\
+    \x00\x00\x00\x00\x00\x00\x00\x00\x00\x00\x00\x00\x00\x00\x00\x00\x00\x00\x00\x00\x00\x00\
+    \x00\x00\x00\x00\x00\x00\x00\x00\x00\x00\x00\x00\x00\x00\x83\xaa\x7e\x80\x00\x00\x00\x00";
 
 /// The reply to it of a server that knows no time yet, one second after ORIGIN.
-const REPLY: [u8; 48] = [
-    0xe4, 0, 6, 0xec, 0, 0, 0, 0, 0, 0x10, 0, 0, 0x49, 0x4e, 0x49, 0x54, 0, 0, 0, 0, 0, 0, 0, 0,
-    0x83, 0xaa, 0x7e, 0x80, 0, 0, 0, 0, 0x83, 0xaa, 0x7e, 0x81, 0, 0, 0, 0, 0x83, 0xaa, 0x7e, 0x81,
-    0, 0, 0, 0,
-];
+const REPLY: [u8; 48] = *b"\xe4\x00\x06\xec\x00\x00\x00\x00\x00\x10\x00\x00INIT\
+    \x00\x00\x00\x00\x00\x00\x00\x00\x83\xaa\x7e\x80\x00\x00\x00\x00\
+    \x83\xaa\x7e\x81\x00\x00\x00\x00\x83\xaa\x7e\x81\x00\x00\x00\x00";
 
-/// The key with id 7 and the secret `secret`, for MD5.
-const KEY_FILE: &[u8] = b"7 MD5 secret";
-
-/// The MAC of REQUEST with this key, by Python's hashlib.
+/// The MAC of REQUEST with the key 7 of the secret `secret`, for MD5, by Python's hashlib.
 const MAC: [u8; 20] = *b"\x00\x00\x00\x07\
     \x76\x8a\x48\x46\xbd\x50\xba\x51\xeb\x05\xb0\xfa\xe4\x23\xe4\xba";
 
@@ -66,31 +65,43 @@ const STRATUM: [u8; 24] = *b"\x16\x82\x00\x01\xc0\x11\x00\x00\x00\x00\x00\x0cstr
 
 fn octets_of(bytes: &[u8]) -> Octets {
     let mut octets = Octets::new();
+    append(&mut octets, bytes);
+    octets
+}
+
+/// Appends these octets, as many as there is room for.
+fn append(octets: &mut Octets, bytes: &[u8]) {
     for byte in bytes {
-        if octets.len() < 2048 {
+        if octets.len() < MAX_OCTETS {
             octets.push(*byte);
         }
     }
+}
+
+/// A header with a field and a MAC behind it.
+fn behind(header: &[u8], field: &[u8], mac: &[u8]) -> Octets {
+    let mut octets = octets_of(header);
+    append(&mut octets, field);
+    append(&mut octets, mac);
     octets
 }
 
-/// A header with these pieces behind it, end to end.
-fn behind(header: &[u8], pieces: &[&[u8]]) -> Octets {
-    let mut octets = octets_of(header);
-    for piece in pieces {
-        for byte in *piece {
-            if octets.len() < 2048 {
-                octets.push(*byte);
-            }
+/// These octets, but for the one at this place.
+fn with(bytes: &[u8], place: usize, octet: u8) -> Octets {
+    let mut octets = Octets::new();
+    for i in 0..bytes.len() {
+        if octets.len() < MAX_OCTETS {
+            octets.push(if i == place { octet } else { bytes[i] });
         }
     }
     octets
 }
 
-fn words_of(alloc: Global, texts: &[&str]) -> Result<Vec<String>, AllocError> {
+/// The words of a text, parted by spaces.
+fn words_of(alloc: Global, text: &str) -> Result<Vec<String>, AllocError> {
     let mut words = Vec::new(alloc);
-    for text in texts {
-        words.push(String::from_str(alloc, text)?)?;
+    for word in text.split_whitespace() {
+        words.push(String::from_str(alloc, word)?)?;
     }
     Ok(words)
 }
@@ -107,7 +118,7 @@ struct Run {
 fn run_over(
     rt: &(impl Threads + Wait),
     alloc: Global,
-    texts: &[&str],
+    text: &str,
     incoming: Vec<Incoming>,
     failing_gives: Vec<u64>,
     failing_writes: Vec<u64>,
@@ -126,7 +137,7 @@ fn run_over(
         Vec::new(alloc),
     );
     let mut out = MemorySink::of(alloc, failing_writes);
-    let words = words_of(alloc, texts)?;
+    let words = words_of(alloc, text)?;
     let ended = ntpd(rt, alloc, words.as_slice(), &mut host, &OpenGate, &mut out);
     Ok(Run { ended, out })
 }
@@ -138,388 +149,258 @@ fn one(alloc: Global, bytes: &[u8]) -> Result<Vec<Incoming>, AllocError> {
     Ok(incoming)
 }
 
-/// The octets of the datagrams that a run's port gave, and how many there were.
-fn given(run: &Run) -> (usize, Octets) {
-    let mut count = 0usize;
-    let mut last = Octets::new();
-    if let Some(single) = &run.ended.single {
-        for event in single.port.events() {
-            if let Event::Sent(_, octets) = event {
-                count = count.saturating_add(1);
-                last = octets.copy();
-            }
+/// The octets of all that a port gave, end to end.
+fn given(events: &[Event]) -> Octets {
+    let mut all = Octets::new();
+    for event in events {
+        if let Event::Sent(_, octets) = event {
+            append(&mut all, octets.as_slice());
         }
     }
-    (count, last)
+    all
 }
 
-fn check_run(rt: &impl Abort, run: &Run, status: u8, printed: &str, count: usize, what: &str) {
-    assert_eq!(rt;
-        run.out.contents(),
-        printed.as_bytes(),
-        "what {what} prints"
-    );
-    assert_eq!(rt; run.ended.status, Status(status), "the status of {what}");
-    let (gave, _) = given(run);
-    assert_eq!(rt; gave, count, "how many datagrams {what} gives");
+/// Whether a run ended so, printed this, and gave these octets.
+fn is_so(run: &Run, status: u8, printed: &str, gave: &[u8]) -> bool {
+    run.ended.status == Status(status)
+        && run.out.contents() == printed.as_bytes()
+        && match &run.ended.single {
+            Some(single) => given(single.port.events()).as_slice() == gave,
+            None => gave.is_empty(),
+        }
+}
+
+/// Whether `once` prints this and gives these octets where its port finds this datagram.
+fn serves(
+    rt: &(impl Threads + Wait),
+    alloc: Global,
+    datagram: &[u8],
+    printed: &str,
+    gave: &[u8],
+) -> Result<bool, AllocError> {
+    let none = Vec::new(alloc);
+    let incoming = one(alloc, datagram)?;
+    let run = run_over(rt, alloc, ONCE, incoming, none, Vec::new(alloc))?;
+    Ok(is_so(&run, 0, printed, gave))
+}
+
+/// Whether `once` prints this and gives nothing where its port finds this datagram.
+fn is_silent(
+    rt: &(impl Threads + Wait),
+    alloc: Global,
+    datagram: &[u8],
+    printed: &str,
+) -> Result<bool, AllocError> {
+    serves(rt, alloc, datagram, printed, b"")
 }
 
 #[test]
 fn a_request_gets_the_reply_of_a_server_that_knows_no_time(rt: HostRuntime) -> Result<(), Fail> {
-    let incoming = one(rt.alloc(), &REQUEST)?;
-    let none = Vec::new(rt.alloc());
-    let run = run_over(
-        &rt,
-        rt.alloc(),
-        &["once", "127.0.0.1:123"],
-        incoming,
-        none,
-        Vec::new(rt.alloc()),
-    )?;
-    check_run(&rt, &run, 0, "answered 1\n", 1, "the worked request");
-    let (_, reply) = given(&run);
-    assert_eq!(rt; reply.as_slice(), REPLY.as_slice());
+    assert!(rt; serves(&rt, rt.alloc(), &REQUEST, "answered 1\n", &REPLY)?);
     Ok(())
 }
 
 #[test]
-fn what_is_no_request_gets_no_answer(rt: HostRuntime) -> Result<(), Fail> {
-    let mut longer = [0u8; 56];
-    longer[..48].copy_from_slice(&REQUEST);
-    let short_field = behind(&REQUEST, &[b"\x00\x01\x00\x0c", &[0; 24]]);
-    let long_field = behind(&REQUEST, &[b"\x00\x01\x00\x20", &[0; 24]]);
-    let mut zero = REQUEST;
-    zero[0] = 0x03;
-    let mut five = REQUEST;
-    five[0] = 0x2b;
-    let mut broadcast = REQUEST;
-    broadcast[0] = 0x25;
-    let cases = [
-        (&REQUEST[..0], "silent packet 1\n"),
-        (&REQUEST[..1], "silent packet 1\n"),
-        (&REQUEST[..47], "silent packet 1\n"),
-        (&zero[..], "silent packet 2\n"),
-        (&five[..], "silent packet 2\n"),
-        (&longer[..51], "silent trailer 1\n"),
-        (short_field.as_slice(), "silent trailer 2\n"),
-        (long_field.as_slice(), "silent trailer 3\n"),
-        (&longer[..], "silent trailer 4\n"),
-        (&broadcast[..], "silent unserved 5\n"),
-        (&REPLY[..], "silent unserved 4\n"),
-        (&[0x27], "silent unserved 7\n"),
-        (&[0xc0], "silent unserved 0\n"),
-    ];
-    for (datagram, printed) in cases {
-        let incoming = one(rt.alloc(), datagram)?;
-        let none = Vec::new(rt.alloc());
-        let run = run_over(
-            &rt,
-            rt.alloc(),
-            &["once", "127.0.0.1:123"],
-            incoming,
-            none,
-            Vec::new(rt.alloc()),
-        )?;
-        check_run(&rt, &run, 0, printed, 0, printed);
-    }
+fn what_is_no_packet_gets_no_answer(rt: HostRuntime) -> Result<(), Fail> {
+    let alloc = rt.alloc();
+    assert!(rt; is_silent(&rt, alloc, b"", "silent packet 1\n")?);
+    assert!(rt; is_silent(&rt, alloc, &REQUEST[..1], "silent packet 1\n")?);
+    assert!(rt; is_silent(&rt, alloc, &REQUEST[..47], "silent packet 1\n")?);
+    let version_0 = with(&REQUEST, 0, 0x03);
+    assert!(rt; is_silent(&rt, alloc, version_0.as_slice(), "silent packet 2\n")?);
+    let version_5 = with(&REQUEST, 0, 0x2b);
+    assert!(rt; is_silent(&rt, alloc, version_5.as_slice(), "silent packet 2\n")?);
+    let broadcast = with(&REQUEST, 0, 0x25);
+    assert!(rt; is_silent(&rt, alloc, broadcast.as_slice(), "silent unserved 5\n")?);
+    assert!(rt; is_silent(&rt, alloc, &REPLY, "silent unserved 4\n")?);
+    assert!(rt; is_silent(&rt, alloc, b"\x27", "silent unserved 7\n")?);
+    assert!(rt; is_silent(&rt, alloc, b"\xc0", "silent unserved 0\n")?);
     Ok(())
 }
 
-/// The reply of a server with these keys to one datagram, and what was printed.
-fn serve_with(
-    alloc: Global,
-    keys: KeyTable,
-    datagram: &Octets,
-) -> Result<(Octets, MemorySink), AllocError> {
+#[test]
+fn what_follows_a_header_is_refused_by_its_number(rt: HostRuntime) -> Result<(), Fail> {
+    let alloc = rt.alloc();
+    let ragged = behind(&REQUEST, b"", b"\x00\x00\x00");
+    assert!(rt; is_silent(&rt, alloc, ragged.as_slice(), "silent trailer 1\n")?);
+    let short_field = behind(&REQUEST, b"\x00\x01\x00\x0c", &[0; 24]);
+    assert!(rt; is_silent(&rt, alloc, short_field.as_slice(), "silent trailer 2\n")?);
+    let long_field = behind(&REQUEST, b"\x00\x01\x00\x20", &[0; 24]);
+    assert!(rt; is_silent(&rt, alloc, long_field.as_slice(), "silent trailer 3\n")?);
+    let no_mac = behind(&REQUEST, b"", &[0; 8]);
+    assert!(rt; is_silent(&rt, alloc, no_mac.as_slice(), "silent trailer 4\n")?);
+    Ok(())
+}
+
+/// Whether a server that knows the key ends its reply so, where this follows the request.
+fn ends_with(alloc: Global, field: &[u8], mac: &[u8], end: &[u8]) -> Result<bool, Fail> {
+    let datagram = behind(&REQUEST, field, mac);
     let mut port = MemoryPort::of(alloc, one(alloc, datagram.as_slice())?, Vec::new(alloc));
     let mut clock = MemoryClock::of(vec![in alloc; SECOND]?);
     let mut out = MemorySink::of(alloc, Vec::new(alloc));
     let common = Common {
-        keys,
+        keys: read_keys(alloc, b"7 MD5 secret").ok().ok_or("the key")?,
         salt: Salt([0; 16]),
         origin: ORIGIN,
     };
-    let _status = serve_once(alloc, &mut port, &mut clock, &common, &mut out);
-    let mut reply = Octets::new();
-    for event in port.events() {
-        if let Event::Sent(_, octets) = event {
-            reply = octets.copy();
-        }
-    }
-    Ok((reply, out))
+    let status = serve_once(alloc, &mut port, &mut clock, &common, &mut out);
+    let wanted = behind(&REPLY, b"", end);
+    Ok(status == Status(0) && given(port.events()).as_slice() == wanted.as_slice())
 }
 
 #[test]
 fn the_mac_of_a_request_decides_what_ends_the_reply(rt: HostRuntime) -> Result<(), Fail> {
-    let mut one_bit = MAC;
-    one_bit[19] ^= 1;
-    let mut unknown = MAC;
-    unknown[3] = 8;
-    let none = b"".as_slice();
-    let cases = [
-        ("no MAC", none, none, none),
-        ("a good MAC", none, MAC.as_slice(), REPLY_MAC.as_slice()),
-        (
-            "a good MAC behind a field",
-            &FIELD,
-            &MAC_WITH_FIELD,
-            &REPLY_MAC,
-        ),
-        ("the MAC of the header alone", &FIELD, &MAC, &NAK),
-        ("another bit", none, &one_bit, &NAK),
-        ("an unknown key", none, &unknown, &NAK),
-        ("a key id alone", none, &MAC[..4], &NAK),
-        ("a crypto-NAK", none, &NAK, &NAK),
-    ];
-    for (what, field, mac, end) in cases {
-        let keys = read_keys(rt.alloc(), KEY_FILE).ok().ok_or("the key")?;
-        let (reply, out) = serve_with(rt.alloc(), keys, &behind(&REQUEST, &[field, mac]))?;
-        assert_eq!(rt; out.contents(), b"answered 1\n".as_slice(), "{what}");
-        let due = behind(&REPLY, &[end]);
-        assert_eq!(rt; reply.as_slice(), due.as_slice(), "{what}");
-    }
+    let alloc = rt.alloc();
+    assert!(rt; ends_with(alloc, b"", b"", b"")?);
+    assert!(rt; ends_with(alloc, b"", &MAC, &REPLY_MAC)?);
+    assert!(rt; ends_with(alloc, &FIELD, &MAC_WITH_FIELD, &REPLY_MAC)?);
+    assert!(rt; ends_with(alloc, &FIELD, &MAC, &NAK)?, "the MAC of the header alone");
+    let one_bit = with(&MAC, 19, MAC[19] ^ 1);
+    assert!(rt; ends_with(alloc, b"", one_bit.as_slice(), &NAK)?);
+    let unknown_key = with(&MAC, 3, 8);
+    assert!(rt; ends_with(alloc, b"", unknown_key.as_slice(), &NAK)?);
+    assert!(rt; ends_with(alloc, b"", &MAC[..4], &NAK)?, "a key id alone");
+    assert!(rt; ends_with(alloc, b"", &NAK, &NAK)?);
     Ok(())
 }
 
 #[test]
 fn once_knows_no_keys(rt: HostRuntime) -> Result<(), Fail> {
-    let run = run_over(
+    let request = behind(&REQUEST, b"", &MAC);
+    let reply = behind(&REPLY, b"", &NAK);
+    let is_refused = serves(
         &rt,
         rt.alloc(),
-        &["once", "127.0.0.1:123"],
-        one(rt.alloc(), behind(&REQUEST, &[&MAC]).as_slice())?,
-        Vec::new(rt.alloc()),
-        Vec::new(rt.alloc()),
+        request.as_slice(),
+        "answered 1\n",
+        reply.as_slice(),
     )?;
-    check_run(&rt, &run, 0, "answered 1\n", 1, "a request with a MAC");
-    let (_, reply) = given(&run);
-    assert_eq!(rt; reply.as_slice(), behind(&REPLY, &[&NAK]).as_slice());
+    assert!(rt; is_refused);
     Ok(())
+}
+
+/// Whether `once` gives this answer where its port finds this control request.
+fn answers(
+    rt: &(impl Threads + Wait),
+    alloc: Global,
+    request: &[u8],
+    answer: &[u8],
+) -> Result<bool, AllocError> {
+    serves(rt, alloc, request, "answered 1\n", answer)
 }
 
 #[test]
 fn a_control_request_gets_its_answer(rt: HostRuntime) -> Result<(), Fail> {
-    let cases: [(&[u8], &[u8], &str); 4] = [
-        (&READ_STRATUM, &STRATUM, "a known variable"),
-        (
-            b"\x16\x02\x00\x01\x00\x00\x00\x00\x00\x00\x00\x04nope",
-            b"\x16\xc2\x00\x01\x05\x00\x00\x00\x00\x00\x00\x00",
-            "an unknown variable",
-        ),
-        (
-            b"\x16\x02\x00\x01\x00\x00\x00\x09\x00\x00\x00\x07stratum\x00",
-            b"\x16\xc2\x00\x01\x04\x00\x00\x09\x00\x00\x00\x00",
-            "an unknown association",
-        ),
-        (
-            b"\x16\x03\x00\x01\x00\x00\x00\x00\x00\x00\x00\x00",
-            b"\x16\xc3\x00\x01\x03\x00\x00\x00\x00\x00\x00\x00",
-            "an operation that is not served",
-        ),
-    ];
-    for (request, answer, what) in cases {
-        let incoming = one(rt.alloc(), request)?;
-        let none = Vec::new(rt.alloc());
-        let words = ["once", "127.0.0.1:123"];
-        let run = run_over(
-            &rt,
-            rt.alloc(),
-            &words,
-            incoming,
-            none,
-            Vec::new(rt.alloc()),
-        )?;
-        check_run(&rt, &run, 0, "answered 1\n", 1, what);
-        let (_, gave) = given(&run);
-        assert_eq!(rt; gave.as_slice(), answer, "the answer about {what}");
-    }
+    let alloc = rt.alloc();
+    assert!(rt; answers(&rt, alloc, &READ_STRATUM, &STRATUM)?);
+    let unknown_name = b"\x16\x02\x00\x01\x00\x00\x00\x00\x00\x00\x00\x04nope";
+    let bad_name = b"\x16\xc2\x00\x01\x05\x00\x00\x00\x00\x00\x00\x00";
+    assert!(rt; answers(&rt, alloc, unknown_name, bad_name)?);
+    let association_9 = with(&READ_STRATUM, 7, 9);
+    let bad_association = b"\x16\xc2\x00\x01\x04\x00\x00\x09\x00\x00\x00\x00";
+    assert!(rt; answers(&rt, alloc, association_9.as_slice(), bad_association)?);
+    let operation_3 = b"\x16\x03\x00\x01\x00\x00\x00\x00\x00\x00\x00\x00";
+    let bad_operation = b"\x16\xc3\x00\x01\x03\x00\x00\x00\x00\x00\x00\x00";
+    assert!(rt; answers(&rt, alloc, operation_3, bad_operation)?);
     Ok(())
 }
 
 #[test]
 fn what_is_no_control_request_gets_no_answer(rt: HostRuntime) -> Result<(), Fail> {
-    let mut long = READ_STRATUM;
-    long[11] = 9;
-    let mut zero = READ_STRATUM;
-    zero[0] = 0x06;
-    let mut five = READ_STRATUM;
-    five[0] = 0x2e;
-    let mut error = READ_STRATUM;
-    error[1] = 0x42;
-    let mut more = READ_STRATUM;
-    more[1] = 0x22;
-    let cases: [(&[u8], &str); 8] = [
-        (&READ_STRATUM[..1], "silent frame 1\n"),
-        (&READ_STRATUM[..11], "silent frame 1\n"),
-        (&zero, "silent frame 2\n"),
-        (&five, "silent frame 2\n"),
-        (&long, "silent frame 4\n"),
-        (&STRATUM, "silent not-request\n"),
-        (&error, "silent not-request\n"),
-        (&more, "silent not-request\n"),
-    ];
-    for (datagram, printed) in cases {
-        let incoming = one(rt.alloc(), datagram)?;
-        let none = Vec::new(rt.alloc());
-        let words = ["once", "127.0.0.1:123"];
-        let run = run_over(
-            &rt,
-            rt.alloc(),
-            &words,
-            incoming,
-            none,
-            Vec::new(rt.alloc()),
-        )?;
-        check_run(&rt, &run, 0, printed, 0, printed);
-    }
+    let alloc = rt.alloc();
+    assert!(rt; is_silent(&rt, alloc, &READ_STRATUM[..1], "silent frame 1\n")?);
+    assert!(rt; is_silent(&rt, alloc, &READ_STRATUM[..11], "silent frame 1\n")?);
+    let version_0 = with(&READ_STRATUM, 0, 0x06);
+    assert!(rt; is_silent(&rt, alloc, version_0.as_slice(), "silent frame 2\n")?);
+    let version_5 = with(&READ_STRATUM, 0, 0x2e);
+    assert!(rt; is_silent(&rt, alloc, version_5.as_slice(), "silent frame 2\n")?);
+    let long = with(&READ_STRATUM, 11, 9);
+    assert!(rt; is_silent(&rt, alloc, long.as_slice(), "silent frame 4\n")?);
+    assert!(rt; is_silent(&rt, alloc, &STRATUM, "silent not-request\n")?);
+    let error = with(&READ_STRATUM, 1, 0x42);
+    assert!(rt; is_silent(&rt, alloc, error.as_slice(), "silent not-request\n")?);
+    let more = with(&READ_STRATUM, 1, 0x22);
+    assert!(rt; is_silent(&rt, alloc, more.as_slice(), "silent not-request\n")?);
     Ok(())
+}
+
+/// Whether these words are no command.
+fn is_no_command(
+    rt: &(impl Threads + Wait),
+    alloc: Global,
+    words: &str,
+) -> Result<bool, AllocError> {
+    let none = Vec::new(alloc);
+    let incoming = one(alloc, &REQUEST)?;
+    let run = run_over(rt, alloc, words, incoming, none, Vec::new(alloc))?;
+    Ok(is_so(&run, 1, "ntpd: words\n", b"") && run.ended.single.is_none())
 }
 
 #[test]
 fn words_that_are_no_command_are_refused(rt: HostRuntime) -> Result<(), Fail> {
-    let cases: [&[&str]; 12] = [
-        &[],
-        &["once"],
-        &["once", "nowhere"],
-        &["once", "127.0.0.1"],
-        &["once", "::1"],
-        &["once", "[::1]"],
-        &["once", "::1:123"],
-        &["once", "127.0.0.1:0123"],
-        &["once", "127.0.0.1:65536"],
-        &["once", "127.0.0.1:123", "twice"],
-        &["serve", "ntp.conf"],
-        &["Once", "127.0.0.1:123"],
-    ];
-    for words in cases {
-        let incoming = one(rt.alloc(), &REQUEST)?;
-        let run = run_over(
-            &rt,
-            rt.alloc(),
-            words,
-            incoming,
-            Vec::new(rt.alloc()),
-            Vec::new(rt.alloc()),
-        )?;
-        check_run(&rt, &run, 1, "ntpd: words\n", 0, "the words");
-        assert!(rt; run.ended.single.is_none());
+    let texts = "|once|once nowhere|once 127.0.0.1|once ::1|once [::1]|once ::1:123\
+        |once 127.0.0.1:0123|once 127.0.0.1:65536|once 127.0.0.1:123 twice|serve ntp.conf\
+        |Once 127.0.0.1:123";
+    for words in texts.split('|') {
+        assert!(rt; is_no_command(&rt, rt.alloc(), words)?, "{words}");
     }
     Ok(())
 }
 
 #[test]
 fn an_ipv6_address_is_served_in_each_of_its_texts(rt: HostRuntime) -> Result<(), Fail> {
-    for text in ["[::1]:123", "[0:0:0:0:0:0:0:1]:123", "[::0.0.0.1]:123"] {
-        let run = run_over(
-            &rt,
-            rt.alloc(),
-            &["once", text],
-            one(rt.alloc(), &REQUEST)?,
-            Vec::new(rt.alloc()),
-            Vec::new(rt.alloc()),
-        )?;
-        check_run(&rt, &run, 0, "answered 1\n", 1, text);
-    }
-    Ok(())
-}
-
-#[test]
-fn faults_and_silences_have_their_status(rt: HostRuntime) -> Result<(), Fail> {
     let alloc = rt.alloc();
-    let words = ["once", "127.0.0.1:123"];
-
-    let closed = run_over(
-        &rt,
-        rt.alloc(),
-        &words,
-        Vec::new(alloc),
-        Vec::new(alloc),
-        Vec::new(alloc),
-    )?;
-    check_run(
-        &rt,
-        &closed,
-        7,
-        "ntpd: closed\n",
-        0,
-        "a port of no datagrams",
-    );
-
-    let mut quiet = Vec::new(alloc);
-    for _ in 0..60 {
-        quiet.push(Incoming::Quiet)?;
+    for words in "once [::1]:123|once [0:0:0:0:0:0:0:1]:123|once [::0.0.0.1]:123".split('|') {
+        let none = Vec::new(alloc);
+        let incoming = one(alloc, &REQUEST)?;
+        let run = run_over(&rt, alloc, words, incoming, none, Vec::new(alloc))?;
+        assert!(rt; is_so(&run, 0, "answered 1\n", &REPLY), "{words}");
     }
-    quiet.push(Incoming::Datagram(CLIENT, octets_of(&REQUEST)))?;
-    let quiet = run_over(
-        &rt,
-        rt.alloc(),
-        &words,
-        quiet,
-        Vec::new(alloc),
-        Vec::new(alloc),
-    )?;
-    check_run(
-        &rt,
-        &quiet,
-        6,
-        "ntpd: quiet\n",
-        0,
-        "a port that is quiet for a minute",
-    );
-
-    let mut failing = Vec::new(alloc);
-    failing.push(Incoming::Fail)?;
-    let failing = run_over(
-        &rt,
-        rt.alloc(),
-        &words,
-        failing,
-        Vec::new(alloc),
-        Vec::new(alloc),
-    )?;
-    check_run(&rt, &failing, 4, "ntpd: port\n", 0, "a take that fails");
-
-    let first = vec![in alloc; 0u64]?;
-    let unsent = run_over(
-        &rt,
-        rt.alloc(),
-        &words,
-        one(alloc, &REQUEST)?,
-        first,
-        Vec::new(alloc),
-    )?;
-    check_run(&rt, &unsent, 4, "ntpd: port\n", 0, "a give that fails");
-
-    let first = vec![in alloc; 0u64]?;
-    let unheard = run_over(
-        &rt,
-        rt.alloc(),
-        &words,
-        one(alloc, &REQUEST)?,
-        Vec::new(alloc),
-        first,
-    )?;
-    check_run(&rt, &unheard, 8, "", 1, "a sink that fails");
     Ok(())
 }
 
-#[test]
-fn a_datagram_after_59_silences_is_answered(rt: HostRuntime) -> Result<(), Fail> {
-    let mut incoming = Vec::new(rt.alloc());
-    for _ in 0..59 {
+/// So many takes that find nothing, and then a request.
+fn late(alloc: Global, quiets: u32) -> Result<Vec<Incoming>, AllocError> {
+    let mut incoming = Vec::new(alloc);
+    for _ in 0..quiets {
         incoming.push(Incoming::Quiet)?;
     }
     incoming.push(Incoming::Datagram(CLIENT, octets_of(&REQUEST)))?;
-    let none = Vec::new(rt.alloc());
-    let run = run_over(
-        &rt,
-        rt.alloc(),
-        &["once", "127.0.0.1:123"],
-        incoming,
-        none,
-        Vec::new(rt.alloc()),
-    )?;
-    check_run(&rt, &run, 0, "answered 1\n", 1, "a late request");
+    Ok(incoming)
+}
+
+#[test]
+fn a_run_waits_for_59_silences_and_not_for_60(rt: HostRuntime) -> Result<(), Fail> {
+    let alloc = rt.alloc();
+    let none = Vec::new(alloc);
+    let in_time = run_over(&rt, alloc, ONCE, late(alloc, 59)?, none, Vec::new(alloc))?;
+    assert!(rt; is_so(&in_time, 0, "answered 1\n", &REPLY));
+    let none = Vec::new(alloc);
+    let too_late = run_over(&rt, alloc, ONCE, late(alloc, 60)?, none, Vec::new(alloc))?;
+    assert!(rt; is_so(&too_late, 6, "ntpd: quiet\n", b""));
+    Ok(())
+}
+
+#[test]
+fn faults_of_port_and_sink_have_their_status(rt: HostRuntime) -> Result<(), Fail> {
+    let alloc = rt.alloc();
+    let (no_give, no_write) = (Vec::new(alloc), Vec::new(alloc));
+    let closed = run_over(&rt, alloc, ONCE, Vec::new(alloc), no_give, no_write)?;
+    assert!(rt; is_so(&closed, 7, "ntpd: closed\n", b""));
+
+    let (no_give, no_write) = (Vec::new(alloc), Vec::new(alloc));
+    let failing = vec![in alloc; Incoming::Fail]?;
+    let untaken = run_over(&rt, alloc, ONCE, failing, no_give, no_write)?;
+    assert!(rt; is_so(&untaken, 4, "ntpd: port\n", b""));
+
+    let first_give = vec![in alloc; 0u64]?;
+    let unsent = run_over(&rt, alloc, ONCE, one(alloc, &REQUEST)?, first_give, Vec::new(alloc))?;
+    assert!(rt; is_so(&unsent, 4, "ntpd: port\n", b""));
+
+    let first_write = vec![in alloc; 0u64]?;
+    let request = one(alloc, &REQUEST)?;
+    let unwritten = run_over(&rt, alloc, ONCE, request, Vec::new(alloc), first_write)?;
+    assert!(rt; is_so(&unwritten, 8, "", &REPLY));
     Ok(())
 }
 
@@ -537,11 +418,32 @@ fn a_host_that_gives_no_port_has_its_status(rt: HostRuntime) -> Result<(), Fail>
         failing,
     );
     let mut out = MemorySink::of(alloc, Vec::new(alloc));
-    let words = words_of(alloc, &["once", "127.0.0.1:123"])?;
+    let words = words_of(alloc, ONCE)?;
     let ended = ntpd(&rt, alloc, words.as_slice(), &mut host, &OpenGate, &mut out);
-    assert_eq!(rt; out.contents(), b"ntpd: host\n".as_slice());
-    assert_eq!(rt; ended.status, Status(3));
+    assert!(rt; out.contents() == b"ntpd: host\n".as_slice());
+    assert!(rt; ended.status == Status(3));
     Ok(())
+}
+
+/// Whether a server at this address gives this answer to this request, over two sockets.
+fn is_answered(
+    alloc: Global,
+    server: &mut UdpPort,
+    client: &mut UdpPort,
+    common: &Common,
+    at: &Addr,
+    request: &[u8],
+    answer: &[u8],
+) -> Result<bool, AllocError>
+    requires { length request.now ≤ 48 }
+{
+    let is_sent = client.give(at, request).is_ok();
+    let mut clock = MemoryClock::of(vec![in alloc; SECOND]?);
+    let mut out = MemorySink::of(alloc, Vec::new(alloc));
+    let status = serve_once(alloc, server, &mut clock, common, &mut out);
+    let mut taken = Octets::new();
+    let is_taken = client.take(&mut taken) == Ok(Taken::Datagram(*at));
+    Ok(is_sent && status == Status(0) && is_taken && taken.as_slice() == answer)
 }
 
 /// Serves a request for the time and a control request over two sockets of this machine.
@@ -557,19 +459,8 @@ fn check_sockets(
         salt: Salt([0; 16]),
         origin: ORIGIN,
     };
-    let cases: [(&[u8], &[u8]); 2] = [(&REQUEST, &REPLY), (&READ_STRATUM, &STRATUM)];
-    for (request, answer) in cases {
-        assert!(rt; request.len() <= 48);
-        assert!(rt; client.give(&at, request).is_ok());
-        let mut clock = MemoryClock::of(vec![in alloc; SECOND]?);
-        let mut out = MemorySink::of(alloc, Vec::new(alloc));
-        let status = serve_once(alloc, server, &mut clock, &common, &mut out);
-        assert_eq!(rt; status, Status(0));
-        assert_eq!(rt; out.contents(), b"answered 1\n".as_slice());
-        let mut taken = Octets::new();
-        assert_eq!(rt; client.take(&mut taken), Ok(Taken::Datagram(at)));
-        assert_eq!(rt; taken.as_slice(), answer);
-    }
+    assert!(rt; is_answered(alloc, server, client, &common, &at, &REQUEST, &REPLY)?);
+    assert!(rt; is_answered(alloc, server, client, &common, &at, &READ_STRATUM, &STRATUM)?);
     Ok(())
 }
 

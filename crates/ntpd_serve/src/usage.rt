@@ -4,7 +4,9 @@ ghost use Rattle.ntpd_serve.specs.declared.usage.Notice.{Notice};
 ghost use Rattle.ntpd_serve.specs.Usage.{word_of, notice_text};
 
 use edge_traits::{Sink, SinkFault, Status, write_whole};
+use std::alloc::AllocError;
 use std::env;
+use std::io::ErrorKind;
 use std::rt::Env;
 
 /// What `ntpd` says of itself before it runs.
@@ -26,19 +28,23 @@ pub const HELP: &[u8] =
 /// Its version.
 pub const VERSION: &[u8] = b"ntpd 0.1.0\n";
 
-/// The words after the program's name; none where the system does not give them all.
-pub fn words<R: Env + AllocGlobal>(rt: &R) -> Vec<String> {
+/// The words after the program's name; none where one of them is no text. It fails for want of
+/// memory.
+pub fn words<R: Env + AllocGlobal>(rt: &R) -> Result<Vec<String>, AllocError> {
     let mut words = Vec::new(rt.alloc());
-    let Ok(given) = env::args(rt) else {
-        return words;
+    let given = match env::args(rt) {
+        Ok(given) => given,
+        Err(fault) => {
+            return match fault.kind() {
+                ErrorKind::OutOfMemory => Err(AllocError),
+                _ => Ok(words),
+            };
+        }
     };
     for word in given.skip(1) {
-        if words.push(word).is_err() {
-            words.clear();
-            return words;
-        }
+        words.push(word)?;
     }
-    words
+    Ok(words)
 }
 
 /// The notice that the words ask for: its word stands alone.

@@ -8,7 +8,8 @@ use Rattle.mac_keys.specs.declared.checking.Auth.{Auth}
 use Rattle.mac_keys.specs.declared.keys.Key.{Key}
 use Rattle.ntp_packet.specs.declared.packet.Header.{Header}
 use Rattle.ntp_packet.specs.declared.packet.PacketFault.{PacketFault}
-use Rattle.ntp_packet.specs.Packet.{IsPacket, fault_of, mode_of}
+use Rattle.ntp_packet.specs.FirstOctet.{mode_of}
+use Rattle.ntp_packet.specs.Packet.{IsPacket, fault_of}
 use Rattle.ntp_trailer.specs.declared.parts.Trailer.{Trailer as FieldsAndMac}
 use Rattle.ntp_trailer.specs.declared.parts.TrailerFault.{TrailerFault}
 use Rattle.ntp_trailer.specs.Trailers.{HasTrailer, IsRefused}
@@ -16,7 +17,8 @@ use Rattle.ntp_trailer.specs.Authentic.{IsAuth}
 use Rattle.mode6_frame.specs.declared.message.FrameFault.{FrameFault}
 use Rattle.mode6_frame.specs.Frames.{FrameParts, IsFrame, frame_fault_of}
 use Rattle.sys_vars.specs.declared.asked.Asked.{Asked}
-use Rattle.server_core.specs.declared.class.TheConstants.{MODE_CLIENT, MODE_CONTROL}
+use Rattle.sys_vars.specs.declared.context.Context.{Context}
+use Rattle.ntp_packet.specs.declared.leap_version_mode.TheConstants.{MODE_CLIENT, MODE_CONTROL}
 use Rattle.server_core.specs.declared.class.Ask.{Ask}
 use Rattle.server_core.specs.declared.class.Class.{Class}
 use Rattle.server_core.specs.declared.class.Class.TheVariants.{Silent, Time, Look}
@@ -42,27 +44,27 @@ not_both : (octets : List ℕ) → mode_of octets ≡ MODE_CLIENT → ¬ (mode_o
 not_both octets client control = absurd (omega (arith, client, control))
 
 -- what is empty is that and nothing else
-pub only_empty : (octets : List ℕ) (from : Addr) (keys : List Key) → octets ≡ [] → (class : Class) → IsClass octets from keys class → Silent (Packet 1) ≡ class
-only_empty octets from keys empty (Silent (Packet number)) (inl is) = ap (λ n. Silent (Packet n)) (sym is.1)
-only_empty octets from keys empty (Silent (Packet number)) (inr refused) = absurd (client_is_some octets refused.0 empty)
-only_empty octets from keys empty (Silent (Trailer number)) long = absurd (client_is_some octets long.0.1.client empty)
-only_empty octets from keys empty (Silent (Frame number)) refused = absurd (control_is_some octets refused.0 empty)
-only_empty octets from keys empty (Silent (Unserved mode)) unserved = absurd (unserved.0 empty)
-only_empty octets from keys empty (Silent NotRequest) answer = absurd (control_is_some octets (frame_mode octets answer.0 answer.1) empty)
-only_empty octets from keys empty (Time ask) request = absurd (client_is_some octets request.packet.client empty)
-only_empty octets from keys empty (Look asked) look = absurd (control_is_some octets (frame_mode octets look.0 look.1.frame) empty)
+pub only_empty : (octets : List ℕ) (from : Addr) (keys : List Key) (context : Context) → octets ≡ [] → (class : Class) → IsClass octets from keys context class → Silent (Packet 1) ≡ class
+only_empty octets from keys context empty (Silent (Packet number)) (inl is) = ap (λ n. Silent (Packet n)) (sym is.1)
+only_empty octets from keys context empty (Silent (Packet number)) (inr refused) = absurd (client_is_some octets refused.0 empty)
+only_empty octets from keys context empty (Silent (Trailer number)) long = absurd (client_is_some octets long.0.1.client empty)
+only_empty octets from keys context empty (Silent (Frame number)) refused = absurd (control_is_some octets refused.0 empty)
+only_empty octets from keys context empty (Silent (Unserved mode)) unserved = absurd (unserved.0 empty)
+only_empty octets from keys context empty (Silent NotRequest) answer = absurd (control_is_some octets (frame_mode octets answer.0 answer.1) empty)
+only_empty octets from keys context empty (Time ask) request = absurd (client_is_some octets request.packet.client empty)
+only_empty octets from keys context empty (Look asked) look = absurd (control_is_some octets (frame_mode octets look.0 look.1.frame) empty)
 
 -- what is of another mode is that and nothing else
-pub only_unserved : (octets : List ℕ) (from : Addr) (keys : List Key) (mode : ℕ) → octets ≢ [] → mode ≡ mode_of octets → mode ≢ MODE_CLIENT → mode ≢ MODE_CONTROL
-    → (class : Class) → IsClass octets from keys class → Silent (Unserved mode) ≡ class
-only_unserved octets from keys mode some is other no_control (Silent (Packet number)) (inl empty) = absurd (some empty.0)
-only_unserved octets from keys mode some is other no_control (Silent (Packet number)) (inr short) = absurd (other (is ∙ short.0))
-only_unserved octets from keys mode some is other no_control (Silent (Trailer number)) long = absurd (other (is ∙ long.0.1.client))
-only_unserved octets from keys mode some is other no_control (Silent (Frame number)) refused = absurd (no_control (is ∙ refused.0))
-only_unserved octets from keys mode some is other no_control (Silent (Unserved its)) unserved = ap (λ m. Silent (Unserved m)) (is ∙ sym unserved.1)
-only_unserved octets from keys mode some is other no_control (Silent NotRequest) answer = absurd (no_control (is ∙ frame_mode octets answer.0 answer.1))
-only_unserved octets from keys mode some is other no_control (Time ask) request = absurd (other (is ∙ request.packet.client))
-only_unserved octets from keys mode some is other no_control (Look asked) look = absurd (no_control (is ∙ frame_mode octets look.0 look.1.frame))
+pub only_unserved : (octets : List ℕ) (from : Addr) (keys : List Key) (context : Context) (mode : ℕ) → octets ≢ [] → mode ≡ mode_of octets → mode ≢ MODE_CLIENT → mode ≢ MODE_CONTROL
+    → (class : Class) → IsClass octets from keys context class → Silent (Unserved mode) ≡ class
+only_unserved octets from keys context mode some is other no_control (Silent (Packet number)) (inl empty) = absurd (some empty.0)
+only_unserved octets from keys context mode some is other no_control (Silent (Packet number)) (inr short) = absurd (other (is ∙ short.0))
+only_unserved octets from keys context mode some is other no_control (Silent (Trailer number)) long = absurd (other (is ∙ long.0.1.client))
+only_unserved octets from keys context mode some is other no_control (Silent (Frame number)) refused = absurd (no_control (is ∙ refused.0))
+only_unserved octets from keys context mode some is other no_control (Silent (Unserved its)) unserved = ap (λ m. Silent (Unserved m)) (is ∙ sym unserved.1)
+only_unserved octets from keys context mode some is other no_control (Silent NotRequest) answer = absurd (no_control (is ∙ frame_mode octets answer.0 answer.1))
+only_unserved octets from keys context mode some is other no_control (Time ask) request = absurd (other (is ∙ request.packet.client))
+only_unserved octets from keys context mode some is other no_control (Look asked) look = absurd (no_control (is ∙ frame_mode octets look.0 look.1.frame))
 
 -- a class of a client's packet: what is refused, or refused behind the header, or a request for the time
 abbrev IsClientClass : List ℕ → Addr → List Key → Class → Type 0
@@ -72,15 +74,15 @@ IsClientClass octets from keys class =
     ⊎ ((ask : Ask) × IsTimeRequest octets from keys ask × (class ≡ Time ask)))
 
 -- a client's packet has one of these
-client_class : (octets : List ℕ) (from : Addr) (keys : List Key) → mode_of octets ≡ MODE_CLIENT → (class : Class) → IsClass octets from keys class → IsClientClass octets from keys class
-client_class octets from keys client (Silent (Packet number)) (inl empty) = absurd (client_is_some octets client empty.0)
-client_class octets from keys client (Silent (Packet number)) (inr (_, (fault, refused, is))) = inl (fault, refused, ap (λ n. Silent (Packet n)) is)
-client_class octets from keys client (Silent (Trailer number)) ((h, packet), (fault, refused, is)) = inr (inl (h, packet.packet, fault, refused, ap (λ n. Silent (Trailer n)) is))
-client_class octets from keys client (Silent (Frame number)) refused = absurd (not_both octets client refused.0)
-client_class octets from keys client (Silent (Unserved mode)) unserved = absurd (unserved.2 (unserved.1 ∙ client))
-client_class octets from keys client (Silent NotRequest) answer = absurd (not_both octets client (frame_mode octets answer.0 answer.1))
-client_class octets from keys client (Time ask) request = inr (inr (ask, request, refl))
-client_class octets from keys client (Look asked) look = absurd (not_both octets client (frame_mode octets look.0 look.1.frame))
+client_class : (octets : List ℕ) (from : Addr) (keys : List Key) (context : Context) → mode_of octets ≡ MODE_CLIENT → (class : Class) → IsClass octets from keys context class → IsClientClass octets from keys class
+client_class octets from keys context client (Silent (Packet number)) (inl empty) = absurd (client_is_some octets client empty.0)
+client_class octets from keys context client (Silent (Packet number)) (inr (_, (fault, refused, is))) = inl (fault, refused, ap (λ n. Silent (Packet n)) is)
+client_class octets from keys context client (Silent (Trailer number)) ((h, packet), (fault, refused, is)) = inr (inl (h, packet.packet, fault, refused, ap (λ n. Silent (Trailer n)) is))
+client_class octets from keys context client (Silent (Frame number)) refused = absurd (not_both octets client refused.0)
+client_class octets from keys context client (Silent (Unserved mode)) unserved = absurd (unserved.2 (unserved.1 ∙ client))
+client_class octets from keys context client (Silent NotRequest) answer = absurd (not_both octets client (frame_mode octets answer.0 answer.1))
+client_class octets from keys context client (Time ask) request = inr (inr (ask, request, refl))
+client_class octets from keys context client (Look asked) look = absurd (not_both octets client (frame_mode octets look.0 look.1.frame))
 
 -- an ask by its parts
 abbrev ask_of : (from : Addr) (version : ℕ) (poll : ℤ) (transmit : Ntp64) (auth : Auth) → 1 ≤ version → version ≤ 4 → Ask
@@ -108,9 +110,9 @@ ask_same h from auth a b first second =
     ∙ same_but_for_proofs b.from a.version b.version b.poll b.transmit b.auth version_is a.version_least a.version_most b.version_least b.version_most
 
 -- what is refused as a packet is that and nothing else
-pub only_packet : (octets : List ℕ) (from : Addr) (keys : List Key) (fault : PacketFault) (number : ℕ) → number ≡ packet_number fault → mode_of octets ≡ MODE_CLIENT → fault_of octets ≡ Some fault → ((h : Header) → ¬ IsPacket octets h)
-    → (class : Class) → IsClass octets from keys class → Silent (Packet number) ≡ class
-only_packet octets from keys fault number is_number client refused none class is = by_class (client_class octets from keys client class is)
+pub only_packet : (octets : List ℕ) (from : Addr) (keys : List Key) (context : Context) (fault : PacketFault) (number : ℕ) → number ≡ packet_number fault → mode_of octets ≡ MODE_CLIENT → fault_of octets ≡ Some fault → ((h : Header) → ¬ IsPacket octets h)
+    → (class : Class) → IsClass octets from keys context class → Silent (Packet number) ≡ class
+only_packet octets from keys context fault number is_number client refused none class is = by_class (client_class octets from keys context client class is)
   where
     by_class : IsClientClass octets from keys class → Silent (Packet number) ≡ class
     by_class (inl (other, other_refused, its)) =
@@ -121,10 +123,10 @@ only_packet octets from keys fault number is_number client refused none class is
     by_class (inr (inr (_, request, _))) = absurd (none request.header request.packet.packet)
 
 -- what is refused behind the header is that and nothing else
-pub only_trailer : (octets : List ℕ) (from : Addr) (keys : List Key) (fault : TrailerFault) (number : ℕ) → number ≡ trailer_number fault → mode_of octets ≡ MODE_CLIENT → fault_of octets ≡ None
+pub only_trailer : (octets : List ℕ) (from : Addr) (keys : List Key) (context : Context) (fault : TrailerFault) (number : ℕ) → number ≡ trailer_number fault → mode_of octets ≡ MODE_CLIENT → fault_of octets ≡ None
     → ((trailer : FieldsAndMac) → ¬ HasTrailer octets trailer) → ((other : TrailerFault) → IsRefused octets other → fault ≡ other)
-    → (class : Class) → IsClass octets from keys class → Silent (Trailer number) ≡ class
-only_trailer octets from keys fault number is_number client good none due class is = by_class (client_class octets from keys client class is)
+    → (class : Class) → IsClass octets from keys context class → Silent (Trailer number) ≡ class
+only_trailer octets from keys context fault number is_number client good none due class is = by_class (client_class octets from keys context client class is)
   where
     by_class : IsClientClass octets from keys class → Silent (Trailer number) ≡ class
     by_class (inl (other, refused, _)) = absurd (cc (good, refused))
@@ -133,10 +135,10 @@ only_trailer octets from keys fault number is_number client good none due class 
     by_class (inr (inr (_, request, _))) = absurd (none request.trailer request.follows)
 
 -- what is read as a client's header, fields and MAC is that request and nothing else
-pub only_time : (octets : List ℕ) (from : Addr) (keys : List Key) (h : Header) (trailer : FieldsAndMac) (auth : Auth) (ask : Ask) → mode_of octets ≡ MODE_CLIENT → fault_of octets ≡ None → ((other : Header) → IsPacket octets other → h ≡ other)
+pub only_time : (octets : List ℕ) (from : Addr) (keys : List Key) (context : Context) (h : Header) (trailer : FieldsAndMac) (auth : Auth) (ask : Ask) → mode_of octets ≡ MODE_CLIENT → fault_of octets ≡ None → ((other : Header) → IsPacket octets other → h ≡ other)
     → ((other : FieldsAndMac) → HasTrailer octets other → trailer ≡ other) → ((fault : TrailerFault) → ¬ IsRefused octets fault)
-    → ((other : Auth) → IsAuth keys octets trailer other → auth ≡ other) → IsAskOf h from auth ask → (class : Class) → IsClass octets from keys class → Time ask ≡ class
-only_time octets from keys h trailer auth ask client good one only none shown is class is_class = by_class (client_class octets from keys client class is_class)
+    → ((other : Auth) → IsAuth keys octets trailer other → auth ≡ other) → IsAskOf h from auth ask → (class : Class) → IsClass octets from keys context class → Time ask ≡ class
+only_time octets from keys context h trailer auth ask client good one only none shown is class is_class = by_class (client_class octets from keys context client class is_class)
   where
     by_class : IsClientClass octets from keys class → Time ask ≡ class
     by_class (inl (fault, refused, _)) = absurd (cc (good, refused))
@@ -150,28 +152,28 @@ only_time octets from keys h trailer auth ask client good one only none shown is
         ap Time (ask_same h from auth ask other is of_both) ∙ sym its
 
 -- a class of a control message: what is refused, what is no request, or what it asks for
-abbrev IsControlClass : List ℕ → Addr → Class → Type 0
+abbrev pub IsControlClass : List ℕ → Addr → Class → Type 0
 IsControlClass octets from class =
     ((fault : FrameFault) × (frame_fault_of octets ≡ Some fault) × (class ≡ Silent (Frame (frame_number fault))))
     ⊎ (((f : FrameParts) × IsFrame octets f × (has_answer_bit f ≡ true) × (class ≡ Silent NotRequest))
     ⊎ ((f : FrameParts) × (asked : Asked) × IsRequest octets f × IsAskedOf f from asked × (class ≡ Look asked)))
 
 -- a control message has one of these
-control_class : (octets : List ℕ) (from : Addr) (keys : List Key) → mode_of octets ≡ MODE_CONTROL → (class : Class) → IsClass octets from keys class → IsControlClass octets from class
-control_class octets from keys control (Silent (Packet number)) (inl empty) = absurd (control_is_some octets control empty.0)
-control_class octets from keys control (Silent (Packet number)) (inr refused) = absurd (not_both octets refused.0 control)
-control_class octets from keys control (Silent (Trailer number)) long = absurd (not_both octets long.0.1.client control)
-control_class octets from keys control (Silent (Frame number)) (_, (fault, refused, is)) = inl (fault, refused, ap (λ n. Silent (Frame n)) is)
-control_class octets from keys control (Silent (Unserved mode)) unserved = absurd (unserved.3 (unserved.1 ∙ control))
-control_class octets from keys control (Silent NotRequest) (f, frame, answer) = inr (inl (f, frame, answer, refl))
-control_class octets from keys control (Time ask) request = absurd (not_both octets request.packet.client control)
-control_class octets from keys control (Look asked) (f, request, is) = inr (inr (f, asked, request, is, refl))
+pub control_class : (octets : List ℕ) (from : Addr) (keys : List Key) (context : Context) → mode_of octets ≡ MODE_CONTROL → (class : Class) → IsClass octets from keys context class → IsControlClass octets from class
+control_class octets from keys context control (Silent (Packet number)) (inl empty) = absurd (control_is_some octets control empty.0)
+control_class octets from keys context control (Silent (Packet number)) (inr refused) = absurd (not_both octets refused.0 control)
+control_class octets from keys context control (Silent (Trailer number)) long = absurd (not_both octets long.0.1.client control)
+control_class octets from keys context control (Silent (Frame number)) (_, (fault, refused, is)) = inl (fault, refused, ap (λ n. Silent (Frame n)) is)
+control_class octets from keys context control (Silent (Unserved mode)) unserved = absurd (unserved.3 (unserved.1 ∙ control))
+control_class octets from keys context control (Silent NotRequest) (f, frame, answer) = inr (inl (f, frame, answer, refl))
+control_class octets from keys context control (Time ask) request = absurd (not_both octets request.packet.client control)
+control_class octets from keys context control (Look asked) (f, request, is) = inr (inr (f, asked, request, is, refl))
 
 -- what is a request is that and nothing else
-pub only_look : (octets : List ℕ) (from : Addr) (keys : List Key) (f : FrameParts) (asked : Asked) → mode_of octets ≡ MODE_CONTROL → frame_fault_of octets ≡ None → ((other : FrameParts) → IsFrame octets other → f ≡ other) → has_answer_bit f ≡ false
+pub only_look : (octets : List ℕ) (from : Addr) (keys : List Key) (context : Context) (f : FrameParts) (asked : Asked) → mode_of octets ≡ MODE_CONTROL → frame_fault_of octets ≡ None → ((other : FrameParts) → IsFrame octets other → f ≡ other) → has_answer_bit f ≡ false
     → ((other : Asked) → IsAskedOf f from other → asked ≡ other)
-    → (class : Class) → IsClass octets from keys class → Look asked ≡ class
-only_look octets from keys f asked control good one request one_asked class is = by_class (control_class octets from keys control class is)
+    → (class : Class) → IsClass octets from keys context class → Look asked ≡ class
+only_look octets from keys context f asked control good one request one_asked class is = by_class (control_class octets from keys context control class is)
   where
     by_class : IsControlClass octets from class → Look asked ≡ class
     by_class (inl (fault, refused, _)) = absurd (cc (good, refused))

@@ -16,9 +16,9 @@ use Rattle.sys_vars.specs.declared.asked.Asked.{Asked}
 use Rattle.sys_vars.specs.declared.asked.What.{What}
 use Rattle.sys_vars.specs.declared.asked.What.TheVariants.{Vars, Bad}
 use Rattle.sys_vars.specs.declared.names.TheConstants.{UNKNOWN_NAME}
-use Rattle.server_core.specs.declared.class.TheConstants.{MODE_CONTROL}
-use Rattle.sys_vars.specs.declared.answering.TheConstants.{BAD_FORMAT, BAD_OPERATION}
-use Rattle.server_core.specs.declared.control.TheConstants.{READ_VARIABLES}
+use Rattle.ntp_packet.specs.declared.leap_version_mode.TheConstants.{MODE_CONTROL}
+use Rattle.mode6_frame.specs.declared.errors.TheConstants.{BAD_FORMAT, BAD_OPERATION}
+use Rattle.mode6_frame.specs.declared.operations.TheConstants.{OP_READ_VARIABLES}
 use Rattle.server_core.specs.Control.{IsNumberOf, IsNumberAsked, AreNumbersAsked, IsWhat, IsHeadOf, IsAskedOf}
 
 -- a slot has two octets for each of its items, if its comma is counted
@@ -116,7 +116,7 @@ unless_no_memory items others (inl same) = cc
 unless_no_memory items others (inr wanting) = absurd cc
 
 -- a request whose body is a text of items asks for their numbers and nothing else
-pub only_variables : (f : FrameParts) (items : List Item) (numbers : List ℕ) → f.opcode ≡ READ_VARIABLES → IsItemText f.body items
+pub only_variables : (f : FrameParts) (items : List Item) (numbers : List ℕ) → f.opcode ≡ OP_READ_VARIABLES → IsItemText f.body items
     → ((others : List Item) → IsItemText f.body others → items ≡ others) → AreNumbersAsked f.assoc items numbers
     → (what : What) → IsWhat f what → Vars numbers ≡ what
 only_variables f items numbers reads text one are (Vars its) (_, (others, other_text, other_are)) =
@@ -126,14 +126,14 @@ only_variables f items numbers reads text one are (Bad code) (inl (_, (place, re
 only_variables f items numbers reads text one are (Bad code) (inr (other, _)) = absurd (other reads)
 
 -- a request whose body is none is refused so and not otherwise
-pub only_bad_format : (f : FrameParts) (place : ℕ) → f.opcode ≡ READ_VARIABLES → IsRefusedAt IsItemText f.body place
+pub only_bad_format : (f : FrameParts) (place : ℕ) → f.opcode ≡ OP_READ_VARIABLES → IsRefusedAt IsItemText f.body place
     → (what : What) → IsWhat f what → Bad BAD_FORMAT ≡ what
 only_bad_format f place reads refused (Vars its) (_, (items, text, _)) = absurd (refused_nowhere IsItemText f.body items place text refused)
 only_bad_format f place reads refused (Bad code) (inl (_, _, is)) = ap Bad (sym is)
 only_bad_format f place reads refused (Bad code) (inr (other, _)) = absurd (other reads)
 
 -- nor a request of another operation
-pub only_bad_operation : (f : FrameParts) → f.opcode ≢ READ_VARIABLES → (what : What) → IsWhat f what → Bad BAD_OPERATION ≡ what
+pub only_bad_operation : (f : FrameParts) → f.opcode ≢ OP_READ_VARIABLES → (what : What) → IsWhat f what → Bad BAD_OPERATION ≡ what
 only_bad_operation f other (Vars its) is = absurd (other is.0)
 only_bad_operation f other (Bad code) (inl is) = absurd (other is.0)
 only_bad_operation f other (Bad code) (inr (_, is)) = ap Bad (sym is)

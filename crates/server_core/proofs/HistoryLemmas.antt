@@ -1,14 +1,17 @@
 -- A book over a list of operations.
-use Rattle.std.proofs.Common.{◌≡◌, ◌⊎◌, ℕ, Some, None, Result, Ok, Err, List, [], ◌∷◌, ◌++◌, OnOk, OnErr, length, ◌+◌, refl, sym, ap, subst, ◌∙◌, append_assoc, length-append, arith}
+use Rattle.std.proofs.Common.{◌≡◌, ◌⊎◌, ℕ, Some, None, Result, Ok, Err, List, [], ◌∷◌, ◌++◌, OnOk, OnErr, length, slice_get, ◌+◌, refl, sym, ap, subst, ◌∙◌, append_assoc, length-append, arith}
 use Rattle.std.specs.Prelude.{MatchResult}
 use Rattle.std.proofs.lemmas.List.{append-nil}
+use Rattle.sys_vars.specs.declared.published.Record.{Record}
 use Rattle.server_core.specs.declared.op.Op.{Op}
+use Rattle.server_core.specs.declared.op.Op.TheVariants.{Publish, Arrive, Look, Sweep, Stop}
 use Rattle.server_core.specs.declared.step.Reply.{Reply}
 use Rattle.server_core.specs.declared.step.StepFault.{StepFault}
 use Rattle.server_core.specs.declared.step.StepFault.TheVariants.{NoMemory}
 use Rattle.server_core.specs.Books.{BookParts, MayWant}
-use Rattle.server_core.specs.Histories.{AreSteps, IsStep, accepted, state_after_all}
-use Rattle.server_core.specs.States.{refusal_of, reply_to, state_after}
+use Rattle.server_core.specs.Histories.{AreSteps, IsLegal, IsStep, accepted, published_by, records_in, reply_at, state_after_all}
+use Rattle.server_core.specs.Journals.{published_in}
+use Rattle.server_core.specs.States.{ServerState, refusal_of, reply_to, state_after}
 
 -- what one call of `step` does is a step
 pub IsStep-from : (old new : BookParts) (op : Op) (r : Result Reply StepFault)
@@ -64,3 +67,22 @@ pub AreSteps-ended : (book : BookParts) (all taken left : List Op) (answers : Li
 AreSteps-ended book all taken [] answers last n steps rest counted none =
     subst (λ (ops : List Op). AreSteps book ops answers last) (sym (rest ∙ append-nil taken)) steps
 AreSteps-ended book all taken (op ∷ left) answers last n steps rest counted none = absurd (omega (arith, counted, none))
+
+-- an operation is answered by the state that those before it make, whatever follows
+pub reply_at-place : (s : ServerState) (before after : List Op) (op : Op) → reply_at s (before ++ op ∷ after) (length before) ≡ Some (reply_to (state_after_all s before) op)
+reply_at-place s [] after op = refl
+reply_at-place s (first ∷ before) after op = reply_at-place (state_after s first) before after op
+
+-- what is published is the last of the records that were
+pub published_by-last : (opening : Record) (ops : List Op) → slice_get (published_by opening ops) (length (records_in ops)) ≡ Some (published_in opening ops)
+published_by-last opening [] = refl
+published_by-last opening (Publish boxed ∷ ops) = published_by-last boxed.value ops
+published_by-last opening (Arrive ask moment ∷ ops) = published_by-last opening ops
+published_by-last opening (Look asked context ∷ ops) = published_by-last opening ops
+published_by-last opening (Sweep moment ∷ ops) = published_by-last opening ops
+published_by-last opening (Stop stop ∷ ops) = published_by-last opening ops
+
+-- legal operations, and legal ones after them, are legal as a whole
+pub IsLegal-append : (s : ServerState) (before after : List Op) → IsLegal s before → IsLegal (state_after_all s before) after → IsLegal s (before ++ after)
+IsLegal-append s [] after first second = second
+IsLegal-append s (op ∷ before) after first second = (first.0, IsLegal-append (state_after s op) before after first.1 second)

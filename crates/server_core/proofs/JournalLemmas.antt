@@ -9,7 +9,7 @@ use Rattle.server_core.specs.declared.op.Op.{Op}
 use Rattle.server_core.specs.declared.op.Op.TheVariants.{Publish, Arrive, Look, Sweep, Stop}
 use Rattle.server_core.specs.declared.op.Stop.{Stop as Stopping}
 use Rattle.server_core.specs.declared.op.TheConstants.{MAX_ENTRIES}
-use Rattle.server_core.specs.Journals.{IsIndexed, index_with, op_at, published_in, record_at}
+use Rattle.server_core.specs.Journals.{CanTake, IsIndexed, op_at, published_in, record_at}
 use Rattle.server_core.specs.States.{is_publish, is_stop, record_of, stop_in, stop_of}
 
 -- what is published after one operation more
@@ -89,6 +89,12 @@ kept-append ops index op is none room keeps goes_on no_stop no_publication = rec
   open_ = λ still. still_open ops op room goes_on;
 }
 
+-- what a journal keeps beside its operations, once another stands at a place
+abbrev pub index_with : Index → Op → ℕ → Index
+index_with index (Publish boxed) place = record { last = Some place; publications = index.publications + 1; stop = index.stop }
+index_with index (Stop stop) place = record { last = index.last; publications = index.publications; stop = Some stop }
+index_with index _ place = index
+
 -- what a journal keeps, once it has one operation more
 pub IsIndexed-append : (ops : List Op) (index : Index) (op : Op) → IsIndexed ops index → stop_in ops ≡ None → (is_stop op ≡ true) ⊎ (length ops < MAX_ENTRIES)
     → IsIndexed (ops ++ op ∷ []) (index_with index op (length ops))
@@ -124,12 +130,15 @@ pub place_within : (ops now : List Op) (index : Index) (place : ℕ) → IsIndex
 place_within ops now index place is same at =
     subst (λ o. IfSome o (λ p. p < length now)) at (subst (λ all. IfSome index.last (λ p. p < length all)) same is.within)
 
+-- what is kept once an operation stands at the end
+pub IsIndexed-with : (index : Index) (op : Op) (place : ℕ) (next : Index) → next ≡ index_with index op place
+    → (ops : List Op) → IsIndexed ops index → CanTake ops op → place ≡ length ops → IsIndexed (ops ++ op ∷ []) next
+IsIndexed-with index op place next with_op ops is can at =
+    subst (λ i. IsIndexed (ops ++ op ∷ []) i) (sym (with_op ∙ ap (index_with index op) at)) (IsIndexed-append ops index op is can.is_open can.room)
+
 -- a journal takes an operation more
-pub IsIndexed-pushed : (ops now : List Op) (index : Index) (op : Op) → IsIndexed ops index → ops ≡ now → stop_in now ≡ None → (is_stop op ≡ true) ⊎ (length now < MAX_ENTRIES)
-    → (after : List Op) (next : Index) (place : ℕ) → after ≡ ops ++ op ∷ [] → next ≡ index_with index op place → place ≡ length now → IsIndexed after next
-IsIndexed-pushed ops now index op is same none room after next place appended with_op at =
-    let none' : stop_in ops ≡ None = ap stop_in same ∙ none in
-    let room' = subst (λ all. (is_stop op ≡ true) ⊎ (length all < MAX_ENTRIES)) (sym same) room in
-    let whole = IsIndexed-append ops index op is none' room' in
-    let next_is : next ≡ index_with index op (length ops) = with_op ∙ ap (index_with index op) (at ∙ ap length (sym same)) in
-    subst (λ all. IsIndexed all next) (sym appended) (subst (λ i. IsIndexed (ops ++ op ∷ []) i) (sym next_is) whole)
+pub IsIndexed-pushed : (ops now : List Op) (index next : Index) (op : Op) (after : List Op) (place : ℕ) → IsIndexed ops index → ops ≡ now → CanTake now op
+    → ((all : List Op) → IsIndexed all index → CanTake all op → place ≡ length all → IsIndexed (all ++ op ∷ []) next)
+    → after ≡ ops ++ op ∷ [] → place ≡ length now → IsIndexed after next
+IsIndexed-pushed ops now index next op after place is same can keeps appended at =
+    subst (λ all. IsIndexed all next) (sym appended) (keeps ops is (subst (λ all. CanTake all op) (sym same) can) (at ∙ ap length (sym same)))

@@ -3,7 +3,9 @@ pub mod ControlLemmas
 pub mod HistoryLemmas
 pub mod JournalLemmas
 pub mod ReplyLemmas
+pub mod ResponseLemmas
 pub mod ShownLemmas
 mod StandardFacts
 pub mod StateLemmas
 pub mod VerdictLemmas
+mod WorkedFacts

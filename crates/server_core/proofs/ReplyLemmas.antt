@@ -5,7 +5,7 @@ use Rattle.discipline.specs.SoftClock.{clock_time}
 use Rattle.ntp_packet.specs.declared.packet.Header.{Header}
 use Rattle.server_core.specs.declared.class.Ask.{Ask}
 use Rattle.server_core.specs.declared.reply.Basis.{Basis}
-use Rattle.server_core.specs.declared.reply.TheConstants.{MODE_SERVER}
+use Rattle.ntp_packet.specs.declared.leap_version_mode.TheConstants.{MODE_SERVER}
 use Rattle.server_core.specs.Reply.{shown_stratum, root_dispersion_at, reply_header}
 
 -- a header with these parts, the others the basis's and the ask's

@@ -18,7 +18,7 @@ use Rattle.server_core.specs.Control.{IsWhat, has_answer_bit}
 use Rattle.server_core.specs.Reply.{HasKey, ended, reply_header}
 
 -- the origin of Unix time
-abbrev unix : Ntp64
+abbrev pub unix : Ntp64
 unix = record { 0 = 0x83aa7e8000000000 }
 
 -- what a server that knows no time replies from
@@ -26,7 +26,7 @@ abbrev basis : Basis
 basis = record { system = (opening_record unix []).system; clock = (opening_record unix []).clock }
 
 -- a request of version 4 that left its client then
-abbrev ask : Ask
+abbrev pub ask : Ask
 ask = record {
   from = record { ip = V4 (192 ∷ 0 ∷ 2 ∷ 1 ∷ []); port = 123 };
   version = 4;

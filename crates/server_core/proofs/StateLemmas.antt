@@ -1,13 +1,16 @@
 -- A server after an operation.
-use Rattle.std.proofs.Common.{◌≡◌, ℕ, List, [], ◌∷◌, ◌++◌, ap, ◌∙◌}
+use Rattle.std.proofs.Common.{◌≡◌, ℕ, Bool, true, cond, List, [], ◌∷◌, ◌++◌, ap, ◌∙◌}
 use Rattle.fixed_time.specs.declared.time.Ntp64.{Ntp64}
 use Rattle.recency.specs.declared.limits.Limits.{Limits}
 use Rattle.recency.specs.declared.row.Row.{Row}
 use Rattle.sys_vars.specs.declared.published.Record.{Record}
+use Rattle.server_core.specs.declared.class.Ask.{Ask}
 use Rattle.server_core.specs.declared.op.Op.{Op}
+use Rattle.server_core.specs.declared.op.Op.TheVariants.{Arrive}
 use Rattle.server_core.specs.Books.{BookParts}
 use Rattle.server_core.specs.Journals.{published_in}
 use Rattle.server_core.specs.States.{ServerState, record_of, rows_after, stamp_after, state_after}
+use Rattle.server_core.specs.Verdicts.{drawn, is_ignored, rows_at}
 use Rattle.server_core.proofs.JournalLemmas.{published_in-append}
 
 -- once the journal has the operation too, all of the server is what the definition makes of it
@@ -32,3 +35,15 @@ stepped s op opening journal pushed rows stamp limits origin now view published_
       limits = same_limits i;
       origin = same_origin i;
     }
+
+-- a client that is ignored leaves the server as it was
+pub ignored_arrival : (s : ServerState) (ask : Ask) (moment : ℕ) → is_ignored s.published ask ≡ true → state_after s (Arrive ask moment) ≡ s
+ignored_arrival s ask moment ignored =
+    let listed : List Row = rows_at s.published s.limits s.rows (drawn s.stamp moment) ask in
+    ap (λ (refuses : Bool). record {
+      published = s.published;
+      rows = cond refuses s.rows listed;
+      stamp = cond refuses s.stamp (drawn s.stamp moment);
+      limits = s.limits;
+      origin = s.origin;
+    }) ignored

@@ -1,18 +1,22 @@
 -- A book: a server between two operations, with the journal of those that it took. Our own words.
-use Rattle.std.specs.Prelude.{◌≡◌, false, List, None}
+use Rattle.std.specs.Prelude.{◌≡◌, false, List, [], ◌∷◌, ◌++◌, None}
 use Rattle.recency.specs.Rows.{find_row}
 use Rattle.sys_vars.specs.Answers.{IsWithin}
 use Rattle.server_core.specs.declared.op.Op.{Op}
 use Rattle.server_core.specs.declared.op.Op.TheVariants.{Publish, Arrive, Look, Sweep, Stop}
 use Rattle.server_core.specs.declared.step.Reply.{Reply}
 use Rattle.server_core.specs.declared.step.Reply.TheVariants.{Published, Time, Looked, Swept, Stopped}
-use Rattle.server_core.specs.States.{ServerState}
+use Rattle.server_core.specs.States.{ServerState, refusal_of, state_after}
 use Rattle.server_core.specs.Verdicts.{is_ignored}
 
 -- the server as it stands, and its journal
 pub record BookParts : Type 0 where
   pub state : ServerState
   pub journal : List Op
+
+-- the server one operation further, which its journal has at its end
+abbrev pub stepped : BookParts → Op → BookParts
+stepped book op = record { state = state_after book.state op; journal = book.journal ++ op ∷ [] }
 
 -- an operation may want memory: what a control request is answered with, and a client that is new to the list
 abbrev pub MayWant : ServerState → Op → Type 0
@@ -21,6 +25,10 @@ MayWant s (Arrive ask moment) = (is_ignored s.published ask ≡ false) × (find_
 MayWant s (Publish rec) = ⊥
 MayWant s (Sweep moment) = ⊥
 MayWant s (Stop stop) = ⊥
+
+-- no operation is refused, but for want of memory
+abbrev pub IsOpen : BookParts → Type 0
+IsOpen book = (op : Op) → refusal_of book.journal book.state.stamp op ≡ None
 
 -- no datagram that answers a control request is longer than a control message can be
 abbrev pub IsShort : Reply → Type 0

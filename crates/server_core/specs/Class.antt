@@ -6,7 +6,8 @@ use Rattle.net_addr.specs.declared.addr.Addr.{Addr}
 use Rattle.ntp_packet.specs.declared.packet.Header.{Header}
 use Rattle.ntp_packet.specs.declared.packet.PacketFault.{PacketFault}
 use Rattle.ntp_packet.specs.declared.packet.PacketFault.TheVariants.{Short, BadVersion, BadMode}
-use Rattle.ntp_packet.specs.Packet.{IsPacket, fault_of, mode_of}
+use Rattle.ntp_packet.specs.FirstOctet.{mode_of}
+use Rattle.ntp_packet.specs.Packet.{IsPacket, fault_of}
 use Rattle.ntp_trailer.specs.declared.parts.Trailer.{Trailer as FieldsAndMac}
 use Rattle.ntp_trailer.specs.declared.parts.TrailerFault.{TrailerFault}
 use Rattle.ntp_trailer.specs.declared.parts.TrailerFault.TheVariants.{Ragged, FieldShort, FieldLong, BadRemainder}
@@ -14,7 +15,8 @@ use Rattle.ntp_trailer.specs.Trailers.{HasTrailer, IsRefused}
 use Rattle.ntp_trailer.specs.Authentic.{IsAuth}
 use Rattle.mode6_frame.specs.declared.message.FrameFault.{FrameFault}
 use Rattle.mode6_frame.specs.Frames.{FrameParts, IsFrame, frame_fault_of}
-use Rattle.server_core.specs.declared.class.TheConstants.{MODE_CLIENT, MODE_CONTROL}
+use Rattle.sys_vars.specs.declared.context.Context.{Context}
+use Rattle.ntp_packet.specs.declared.leap_version_mode.TheConstants.{MODE_CLIENT, MODE_CONTROL}
 use Rattle.server_core.specs.declared.class.Ask.{Ask}
 use Rattle.server_core.specs.declared.class.Class.{Class}
 use Rattle.server_core.specs.declared.class.Class.TheVariants.{Silent, Time, Look}
@@ -74,8 +76,8 @@ IsUnheard octets (Unserved mode) =
     (octets ≢ []) × (mode ≡ mode_of octets) × (mode ≢ MODE_CLIENT) × (mode ≢ MODE_CONTROL)
 IsUnheard octets NotRequest = (f : FrameParts) × IsFrame octets f × (has_answer_bit f ≡ true)
 
--- what a datagram from this address asks for, where these keys are known
-abbrev pub IsClass : List ℕ → Addr → List Key → Class → Type 0
-IsClass octets from keys (Silent why) = IsUnheard octets why
-IsClass octets from keys (Time ask) = IsTimeRequest octets from keys ask
-IsClass octets from keys (Look asked) = IsLook octets from asked
+-- what a datagram from this address that came in this context asks for, where these keys are known
+abbrev pub IsClass : List ℕ → Addr → List Key → Context → Class → Type 0
+IsClass octets from keys context (Silent why) = IsUnheard octets why
+IsClass octets from keys context (Time ask) = IsTimeRequest octets from keys ask
+IsClass octets from keys context (Look asked) = IsLook octets from asked

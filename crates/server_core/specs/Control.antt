@@ -13,8 +13,8 @@ use Rattle.sys_vars.specs.declared.asked.What.{What}
 use Rattle.sys_vars.specs.declared.asked.What.TheVariants.{Vars, Bad}
 use Rattle.sys_vars.specs.declared.names.TheConstants.{UNKNOWN_NAME}
 use Rattle.sys_vars.specs.Names.{name_of}
-use Rattle.sys_vars.specs.declared.answering.TheConstants.{BAD_FORMAT, BAD_OPERATION}
-use Rattle.server_core.specs.declared.control.TheConstants.{READ_VARIABLES}
+use Rattle.mode6_frame.specs.declared.errors.TheConstants.{BAD_FORMAT, BAD_OPERATION}
+use Rattle.mode6_frame.specs.declared.operations.TheConstants.{OP_READ_VARIABLES}
 
 -- the number of a control message's fault, in the order of the tests
 abbrev pub frame_number : FrameFault → ℕ
@@ -34,7 +34,7 @@ pub record IsRequest (octets : List ℕ) (f : FrameParts) : Type 0 where
 
 -- the octets begin with a request to read variables
 abbrev pub IsReadRequest : List ℕ → Type 0
-IsReadRequest octets = (f : FrameParts) × IsRequest octets f × (f.opcode ≡ READ_VARIABLES)
+IsReadRequest octets = (f : FrameParts) × IsRequest octets f × (f.opcode ≡ OP_READ_VARIABLES)
 
 -- the number of the system variable of this name, or that of none
 pub record IsNumberOf (name : List ℕ) (number : ℕ) : Type 0 where
@@ -57,11 +57,11 @@ AreNumbersAsked assoc (item ∷ items) (number ∷ numbers) =
 -- what a request asks for: the variables that its body names, or what is refused with an error code
 abbrev pub IsWhat : FrameParts → What → Type 0
 IsWhat f (Vars numbers) =
-    (f.opcode ≡ READ_VARIABLES)
+    (f.opcode ≡ OP_READ_VARIABLES)
     × ((items : List Item) × IsItemText f.body items × AreNumbersAsked f.assoc items numbers)
 IsWhat f (Bad code) =
-    ((f.opcode ≡ READ_VARIABLES) × ((place : ℕ) × IsRefusedAt IsItemText f.body place) × (code ≡ BAD_FORMAT))
-    ⊎ ((f.opcode ≢ READ_VARIABLES) × (code ≡ BAD_OPERATION))
+    ((f.opcode ≡ OP_READ_VARIABLES) × ((place : ℕ) × IsRefusedAt IsItemText f.body place) × (code ≡ BAD_FORMAT))
+    ⊎ ((f.opcode ≢ OP_READ_VARIABLES) × (code ≡ BAD_OPERATION))
 
 -- what an answer repeats of a request; the status is still to be filled in
 pub record IsHeadOf (f : FrameParts) (head : Head) : Type 0 where

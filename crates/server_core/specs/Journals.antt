@@ -1,11 +1,10 @@
 -- The journal of a server: the operations that it took, oldest first. Our own words.
-use Rattle.std.specs.Prelude.{◌≡◌, ℕ, ◌+◌, ◌≤◌, ◌<◌, Option, Some, None, IfSome, List, [], ◌∷◌, length, slice_get}
+use Rattle.std.specs.Prelude.{◌≡◌, ◌⊎◌, true, ℕ, ◌+◌, ◌≤◌, ◌<◌, Option, Some, None, IfSome, List, [], ◌∷◌, length, slice_get}
 use Rattle.sys_vars.specs.declared.published.Record.{Record}
 use Rattle.server_core.specs.declared.op.Op.{Op}
-use Rattle.server_core.specs.declared.op.Op.TheVariants.{Publish, Arrive, Look, Sweep, Stop}
 use Rattle.server_core.specs.declared.index.Index.{Index}
 use Rattle.server_core.specs.declared.op.TheConstants.{MAX_ENTRIES}
-use Rattle.server_core.specs.States.{record_of, stop_in, publications_in}
+use Rattle.server_core.specs.States.{is_stop, record_of, stop_in, publications_in}
 
 -- what is published after these operations, where this record was before them
 abbrev pub published_in : Record → List Op → Record
@@ -31,12 +30,7 @@ pub record IsIndexed (ops : List Op) (index : Index) : Type 0 where
   pub most : length ops ≤ MAX_ENTRIES + 1
   pub open_ : stop_in ops ≡ None → length ops ≤ MAX_ENTRIES
 
--- the same once an operation stands at this place
-abbrev pub index_with : Index → Op → ℕ → Index
-index_with index (Publish rec) place =
-    record { last = Some place; publications = index.publications + 1; stop = index.stop }
-index_with index (Stop stop) place =
-    record { last = index.last; publications = index.publications; stop = Some stop }
-index_with index (Arrive ask moment) place = index
-index_with index (Look asked context) place = index
-index_with index (Sweep moment) place = index
+-- a journal takes an operation: it has no stop, and room for more than a stop, or the operation is one
+pub record CanTake (ops : List Op) (op : Op) : Type 0 where
+  pub is_open : stop_in ops ≡ None
+  pub room : (is_stop op ≡ true) ⊎ (length ops < MAX_ENTRIES)

@@ -4,6 +4,7 @@ pub mod Control
 pub mod Histories
 pub mod Journals
 pub mod Reply
+pub mod Responses
 pub mod States
 pub mod Verdicts
 pub use Rattle.ntp_packet.specs.Packet

@@ -17,11 +17,12 @@ use Rattle.ntp_trailer.specs.Authentic.{IsAuth, spelled_mac}
 use Rattle.sys_vars.specs.declared.system.System.{System}
 use Rattle.server_core.specs.declared.class.Ask.{Ask}
 use Rattle.server_core.specs.declared.reply.Basis.{Basis}
-use Rattle.server_core.specs.declared.reply.TheConstants.{MODE_SERVER, UNSYNCHRONIZED}
+use Rattle.ntp_packet.specs.declared.leap_version_mode.TheConstants.{MODE_SERVER}
+use Rattle.ntp_packet.specs.declared.packet.TheConstants.{UNSYNCHRONIZED_STRATUM}
 
 -- the stratum as a packet has it: 0 for a server that is not synchronized
 abbrev pub shown_stratum : ℕ → ℕ
-shown_stratum stratum = if stratum == UNSYNCHRONIZED then 0 else stratum
+shown_stratum stratum = if stratum == UNSYNCHRONIZED_STRATUM then 0 else stratum
 
 -- the root dispersion at a moment: it has grown since the system's values were taken, up to 16 seconds
 abbrev pub root_dispersion_at : System → ℕ → ℕ

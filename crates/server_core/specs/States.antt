@@ -30,7 +30,7 @@ pub record ServerState : Type 0 where
 
 -- the record that an operation publishes, or else this one
 abbrev pub record_of : Op → Record → Record
-record_of (Publish rec) before = rec
+record_of (Publish boxed) before = boxed.value
 record_of (Arrive ask moment) before = before
 record_of (Look asked context) before = before
 record_of (Sweep moment) before = before

@@ -10,15 +10,14 @@ use Rattle.recency.specs.declared.row.Row.{Row}
 use Rattle.recency.specs.declared.visit.Visit.{Visit}
 use Rattle.recency.specs.Arrivals.{touched_rows}
 use Rattle.recency.specs.Rows.{find_row, told_rows}
-use Rattle.mac_keys.specs.declared.checking.Auth.{Auth}
-use Rattle.mac_keys.specs.declared.checking.Auth.TheVariants.{Absent, Good, Bad}
+use Rattle.mac_keys.specs.Checks.{is_good}
 use Rattle.sys_vars.specs.declared.published.Record.{Record}
 use Rattle.server_core.specs.declared.class.Ask.{Ask}
-use Rattle.server_core.specs.declared.class.TheConstants.{MODE_CLIENT}
+use Rattle.ntp_packet.specs.declared.leap_version_mode.TheConstants.{MODE_CLIENT}
 use Rattle.server_core.specs.declared.reply.Basis.{Basis}
 use Rattle.server_core.specs.declared.verdict.Verdict.{Verdict}
 use Rattle.server_core.specs.declared.verdict.Verdict.TheVariants.{Ignored, Limited, Rate as KissRate, Served}
-use Rattle.server_core.specs.declared.verdict.TheConstants.{CURRENT_VERSION}
+use Rattle.ntp_packet.specs.declared.leap_version_mode.TheConstants.{CURRENT_VERSION}
 
 -- the restrict flags of the sender
 abbrev pub flags_on : Record → Ask → ℕ
@@ -27,12 +26,6 @@ flags_on rec ask = flags_of rec.rules ask.from.ip
 -- the flags refuse every datagram of the sender
 abbrev pub is_ignored : Record → Ask → Bool
 is_ignored rec ask = has_flag (flags_on rec ask) IGNORE
-
--- the request is one of a key that the server knows
-abbrev pub is_good : Auth → Bool
-is_good (Good id) = true
-is_good Absent = false
-is_good Bad = false
 
 -- the flags refuse the time: to all, to versions other than 4, or to those who give no good MAC
 abbrev pub is_denied : ℕ → Ask → Bool

@@ -1,11 +1,14 @@
-ghost use Rattle.std.specs.Prelude.{◌≡◌, ◌≤◌, ◌<◌, ◌-◌, ◌^◌, false, IfOk, OnOk, OnErr, IsSome, None};
+ghost use Rattle.std.specs.Prelude.{◌≡◌, ◌≤◌, ◌<◌, ◌-◌, ◌^◌, true, false, IfOk, OnOk, OnErr, IsSome, None};
+ghost use Rattle.access_rules.specs.Flags.{has_flag};
 ghost use Rattle.recency.specs.Rows.{AreBefore, AreRows, IsClientList, find_row};
 ghost use Rattle.server_core.specs.Verdicts.{arrival_rows, arrival_stamp, arrival_verdict, flags_on, is_ignored, rows_at, rows_told, verdict_at, visit_of};
 
-use crate::class::{Ask, MODE_CLIENT};
+use crate::class::Ask;
 use crate::verdict::{Verdict, judge};
-use access_rules::{IGNORE, flags_for, has_flag};
-use recency::{Recency, Steps, Visit};
+use access_rules::{IGNORE, LIMITED, flags_for, has_flag};
+use net_addr::Ip;
+use ntp_packet::MODE_CLIENT;
+use recency::{Recency, Row, Steps, Visit};
 use std::alloc::AllocError;
 use std::sync::ledger::{Blank, Ledger};
 use sys_vars::Record;
@@ -75,10 +78,27 @@ fn touch_and_judge<R: Recency, L: Ledger>(
 {
     let mut steps = Steps::<L>::begin(blank);
     list.touch(&visit_of(rec, flags, ask), stamp, &mut steps)?;
-    let row = list.find(&ask.from.ip, &mut steps);
+    let row = row_to_judge(list, flags, &ask.from.ip, &mut steps);
     let verdict = judge(rec, flags, ask, stamp, row);
     tell(list, &verdict, ask, stamp);
     Ok(verdict)
+}
+
+/// The row of a client whose rate is limited. That of another is not wanted.
+fn row_to_judge<R: Recency, L: Ledger>(
+    list: &R,
+    flags: u16,
+    ip: &Ip,
+    steps: &mut Steps<L>,
+) -> Option<Row>
+    ensures limited { has_flag flags LIMITED ≡ true → result ≡ find_row (R.rows list.now) ip.now }
+    ensures other { has_flag flags LIMITED ≡ false → result ≡ None }
+{
+    if has_flag(flags, LIMITED) {
+        list.find(ip, steps)
+    } else {
+        None
+    }
 }
 
 /// Keeps with a client that gets the kiss code when it was told.

@@ -5,12 +5,6 @@ use mac_keys::Auth;
 use net_addr::Addr;
 use sys_vars::Asked;
 
-/// The mode of a client's request (RFC 5905, section 7.3, figure 10).
-pub const MODE_CLIENT: u8 = 3;
-
-/// The mode of a control message (RFC 9327, section 2).
-pub const MODE_CONTROL: u8 = 6;
-
 /// What a client's request for the time says that its reply depends on.
 #[derive(Clone, Copy, Debug, PartialEq, Eq)]
 pub struct Ask {

@@ -4,20 +4,21 @@ ghost use Rattle.mode6_frame.specs.declared.items.Item.{Item};
 ghost use Rattle.mode6_frame.specs.Frames.{parts_of, FitsFrame, mode_of};
 ghost use Rattle.sys_vars.specs.declared.asked.Asked.{Asked};
 ghost use Rattle.sys_vars.specs.declared.asked.What.{What};
+ghost use Rattle.sys_vars.specs.declared.context.Context.{Context};
 ghost use Rattle.sys_vars.specs.declared.asked.TheConstants.{MAX_NAMES};
-ghost use Rattle.server_core.specs.declared.class.TheConstants.{MODE_CONTROL};
+ghost use Rattle.ntp_packet.specs.declared.leap_version_mode.TheConstants.{MODE_CONTROL};
 ghost use Rattle.server_core.specs.declared.class.Class.{Class};
 ghost use Rattle.server_core.specs.Class.{IsClass};
 ghost use Rattle.server_core.specs.Control.{IsReadRequest, IsNumberAsked, AreNumbersAsked, IsWhat, IsHeadOf, IsAskedOf, frame_number, has_answer_bit};
 
 use crate::class::{Class, Unheard};
-use mode6_frame::{Frame, FrameFault, Head, ItemFault, Items, read_items};
+use mode6_frame::{
+    BAD_FORMAT, BAD_OPERATION, Frame, FrameFault, Head, ItemFault, Items, OP_READ_VARIABLES,
+    read_items,
+};
 use net_addr::Addr;
 use std::alloc::{AllocError, Global};
-use sys_vars::{Asked, BAD_FORMAT, BAD_OPERATION, NameNumbers, UNKNOWN_NAME, What, name_number};
-
-/// The operation code of a request to read variables (RFC 9327, section 2).
-pub const READ_VARIABLES: u8 = 2;
+use sys_vars::{Asked, NameNumbers, UNKNOWN_NAME, What, name_number};
 
 /// What a datagram of a control message's mode asks for.
 pub(crate) fn classify_control(
@@ -26,10 +27,10 @@ pub(crate) fn classify_control(
     from: &Addr,
 ) -> Result<Class, AllocError>
     requires mode { mode_of bytes.now ≡ MODE_CONTROL }
-    ensures found { (keys : List Key)
-        → IfOk result (λ class. IsClass bytes.now from.now keys class) }
-    ensures only { (keys : List Key) → (class : Class) → IsClass bytes.now from.now keys class
-        → IfOk result (λ it. it ≡ class) }
+    ensures found { (keys : List Key) → (context : Context)
+        → IfOk result (λ class. IsClass bytes.now from.now keys context class) }
+    ensures only { (keys : List Key) → (context : Context) → (class : Class)
+        → IsClass bytes.now from.now keys context class → IfOk result (λ it. it ≡ class) }
     ensures no_memory { IfErr result (λ _. IsReadRequest bytes.now) }
 {
     match mode6_frame::read(bytes) {
@@ -67,7 +68,7 @@ fn asked_by(alloc: Global, frame: &Frame<'_>, from: &Addr) -> Result<Asked, Allo
     ensures found { IfOk result (λ asked. IsAskedOf (parts_of frame.now) from.now asked) }
     ensures only { (asked : Asked) → IsAskedOf (parts_of frame.now) from.now asked
         → IfOk result (λ it. it ≡ asked) }
-    ensures no_memory { IfErr result (λ _. frame.now.opcode ≡ READ_VARIABLES) }
+    ensures no_memory { IfErr result (λ _. frame.now.opcode ≡ OP_READ_VARIABLES) }
 {
     let what = what_asked(alloc, frame)?;
     Ok(Asked {
@@ -96,9 +97,9 @@ fn what_asked(alloc: Global, frame: &Frame<'_>) -> Result<What, AllocError>
     ensures found { IfOk result (λ what. IsWhat (parts_of frame.now) what) }
     ensures only { (what : What) → IsWhat (parts_of frame.now) what
         → IfOk result (λ it. it ≡ what) }
-    ensures no_memory { IfErr result (λ _. frame.now.opcode ≡ READ_VARIABLES) }
+    ensures no_memory { IfErr result (λ _. frame.now.opcode ≡ OP_READ_VARIABLES) }
 {
-    if frame.opcode == READ_VARIABLES {
+    if frame.opcode == OP_READ_VARIABLES {
         variables_asked(alloc, frame)
     } else {
         Ok(What::Bad(BAD_OPERATION))
@@ -108,7 +109,7 @@ fn what_asked(alloc: Global, frame: &Frame<'_>) -> Result<What, AllocError>
 /// What a request to read variables asks for.
 fn variables_asked(alloc: Global, frame: &Frame<'_>) -> Result<What, AllocError>
     requires fits { FitsFrame (parts_of frame.now) }
-    requires reads { frame.now.opcode ≡ READ_VARIABLES }
+    requires reads { frame.now.opcode ≡ OP_READ_VARIABLES }
     ensures found { IfOk result (λ what. IsWhat (parts_of frame.now) what) }
     ensures only { (what : What) → IsWhat (parts_of frame.now) what
         → IfOk result (λ it. it ≡ what) }
@@ -145,112 +146,57 @@ fn number_asked(assoc: u16, name: &[u8]) -> u8
 #[cfg(test)]
 mod tests {
     use super::*;
+    use edge_traits::Salt;
+    use fixed_time::Ntp64;
     use mac_keys::KeyTable;
     use net_addr::Ip;
     use std::test::Fail;
+    use sys_vars::Context;
 
     const CLIENT: Addr = Addr {
         ip: Ip::V4([192, 0, 2, 1]),
         port: 123,
     };
 
-    fn what_of(alloc: Global, datagram: &[u8]) -> Result<Option<What>, AllocError> {
-        match crate::classify(alloc, datagram, &CLIENT, &KeyTable::new(alloc))? {
-            Class::Look(asked) => Ok(Some(asked.what)),
-            _ => Ok(None),
+    /// What a control message asks for: the numbers of variables, or an error code behind a 0.
+    fn asked_for(alloc: Global, datagram: &[u8]) -> Result<Vec<u8>, AllocError> {
+        let context = Context {
+            salt: Salt([0; 16]),
+            origin: Ntp64(0),
+            moment: 0,
+        };
+        let keys = KeyTable::new(alloc);
+        match crate::classify(alloc, datagram, &CLIENT, &keys, &context)? {
+            Class::Look(asked) => match asked.what {
+                What::Vars(numbers) => Vec::from_slice(alloc, numbers.as_slice()),
+                What::Bad(code) => Vec::from_slice(alloc, &[0, code]),
+            },
+            _ => Vec::from_slice(alloc, b"none"),
         }
-    }
-
-    #[test]
-    fn a_request_for_stratum_is_read(rt: HostRuntime) -> Result<(), Fail> {
-        let request = *b"\x16\x02\x00\x01\x00\x00\x00\x00\x00\x00\x00\x07stratum\x00";
-        match crate::classify(rt.alloc(), &request, &CLIENT, &KeyTable::new(rt.alloc()))? {
-            Class::Look(asked) => {
-                assert_eq!(rt; asked.from, CLIENT);
-                assert_eq!(rt; (asked.head.version, asked.head.opcode), (2, 2));
-                assert_eq!(rt; (asked.head.sequence, asked.head.status), (1, 0));
-                assert_eq!(rt; asked.head.assoc, 0);
-            }
-            _ => assert!(rt; false, "it is no control request"),
-        }
-        Ok(())
     }
 
     #[test]
     fn names_are_asked_for_by_their_numbers(rt: HostRuntime) -> Result<(), Fail> {
-        let cases = [
-            (
-                "one name",
-                b"\x16\x02\x00\x01\x00\x00\x00\x00\x00\x00\x00\x07stratum\x00".as_slice(),
-                b"\x02".as_slice(),
-            ),
-            (
-                "an unknown name",
-                b"\x16\x02\x00\x01\x00\x00\x00\x00\x00\x00\x00\x04nope".as_slice(),
-                b"\xff".as_slice(),
-            ),
-            (
-                "several names in their order",
-                b"\x26\x02\x00\x01\x00\x00\x00\x00\x00\x00\x00\x0frefid,nope,leap\x00".as_slice(),
-                b"\x06\xff\x01".as_slice(),
-            ),
-            (
-                "a name of an association",
-                b"\x16\x02\x00\x01\x00\x00\x00\x05\x00\x00\x00\x07stratum\x00".as_slice(),
-                b"\xff".as_slice(),
-            ),
-            (
-                "no name",
-                b"\x16\x02\x00\x01\x00\x00\x00\x00\x00\x00\x00\x00".as_slice(),
-                b"".as_slice(),
-            ),
-        ];
-        for (message, datagram, numbers) in cases {
-            match what_of(rt.alloc(), datagram)? {
-                Some(What::Vars(asked)) => {
-                    assert!(rt; asked.as_slice() == numbers, "{message}");
-                }
-                _ => assert!(rt; false, "{message}"),
-            }
-        }
+        let one = b"\x16\x02\x00\x01\x00\x00\x00\x00\x00\x00\x00\x07stratum\x00";
+        assert!(rt; asked_for(rt.alloc(), one)?.as_slice() == b"\x02".as_slice());
+        let three = b"\x26\x02\x00\x01\x00\x00\x00\x00\x00\x00\x00\x0frefid,nope,leap\x00";
+        assert!(rt; asked_for(rt.alloc(), three)?.as_slice() == b"\x06\xff\x01".as_slice());
+        let of_association = b"\x16\x02\x00\x01\x00\x00\x00\x05\x00\x00\x00\x07stratum\x00";
+        assert!(rt; asked_for(rt.alloc(), of_association)?.as_slice() == b"\xff".as_slice());
+        let all = b"\x16\x02\x00\x01\x00\x00\x00\x00\x00\x00\x00\x00";
+        assert!(rt; asked_for(rt.alloc(), all)?.is_empty());
         Ok(())
     }
 
     #[test]
     fn what_is_not_served_is_refused_by_its_error_code(rt: HostRuntime) -> Result<(), Fail> {
-        let cases = [
-            (
-                "a value",
-                b"\x16\x02\x00\x01\x00\x00\x00\x00\x00\x00\x00\x0astratum=16\x00\x00".as_slice(),
-                BAD_FORMAT,
-            ),
-            (
-                "operation 1",
-                b"\x16\x01\x00\x01\x00\x00\x00\x00\x00\x00\x00\x00".as_slice(),
-                BAD_OPERATION,
-            ),
-            (
-                "operation 3 before a body that is refused",
-                b"\x16\x03\x00\x01\x00\x00\x00\x00\x00\x00\x00\x01=\x00\x00\x00".as_slice(),
-                BAD_OPERATION,
-            ),
-            (
-                "operation 10",
-                b"\x16\x0a\x00\x01\x00\x00\x00\x00\x00\x00\x00\x00".as_slice(),
-                BAD_OPERATION,
-            ),
-            (
-                "operation 12",
-                b"\x16\x0c\x00\x01\x00\x00\x00\x00\x00\x00\x00\x00".as_slice(),
-                BAD_OPERATION,
-            ),
-        ];
-        for (message, datagram, code) in cases {
-            match what_of(rt.alloc(), datagram)? {
-                Some(What::Bad(refused)) => assert_eq!(rt; refused, code, "{message}"),
-                _ => assert!(rt; false, "{message}"),
-            }
-        }
+        let value = b"\x16\x02\x00\x01\x00\x00\x00\x00\x00\x00\x00\x0astratum=16\x00\x00";
+        assert!(rt; asked_for(rt.alloc(), value)?.as_slice() == [0, BAD_FORMAT].as_slice());
+        // The operation goes before a body that is refused.
+        let write = b"\x16\x03\x00\x01\x00\x00\x00\x00\x00\x00\x00\x01=\x00\x00\x00";
+        assert!(rt; asked_for(rt.alloc(), write)?.as_slice() == [0, BAD_OPERATION].as_slice());
+        let list = b"\x16\x0a\x00\x01\x00\x00\x00\x00\x00\x00\x00\x00";
+        assert!(rt; asked_for(rt.alloc(), list)?.as_slice() == [0, BAD_OPERATION].as_slice());
         Ok(())
     }
 }

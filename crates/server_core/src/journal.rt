@@ -1,6 +1,7 @@
-ghost use Rattle.std.specs.Prelude.{◌≡◌, ◌≤◌, ◌<◌, ◌⊎◌, Some, None, true, [], ◌∷◌, ◌++◌, length, IfOk, slice_get, vec_len, vec_capacity};
-ghost use Rattle.server_core.specs.States.{is_stop, publications_in, record_of, stop_in};
-ghost use Rattle.server_core.specs.Journals.{index_with, published_in};
+ghost use Rattle.std.specs.Prelude.{◌≡◌, ◌≤◌, ◌<◌, Some, List, [], ◌∷◌, ◌++◌, length, IfOk, slice_get, vec_len, vec_capacity};
+ghost use Rattle.server_core.specs.declared.op.Op.{Op};
+ghost use Rattle.server_core.specs.States.{publications_in, record_of, stop_in};
+ghost use Rattle.server_core.specs.Journals.{CanTake, IsIndexed, published_in};
 ghost use Rattle.server_core.specs.declared.op.TheConstants.{MAX_ENTRIES};
 
 use crate::index::Index;
@@ -105,8 +106,7 @@ impl Journal {
 
     /// Takes one operation more. Its room was taken in the beginning.
     pub(crate) fn push(&mut self, op: Op)
-        requires is_open { stop_in self.old ≡ None }
-        requires room { (is_stop op ≡ true) ⊎ (length self.old < MAX_ENTRIES) }
+        requires { CanTake self.old op }
         ensures { self.new ≡ self.old ++ op ∷ [] }
     {
         let place = self.len();
@@ -137,7 +137,7 @@ fn record_of(op: Op, before: Record) -> Record
     ensures { result ≡ record_of op before }
 {
     match op {
-        Op::Publish(record) => record,
+        Op::Publish(boxed) => Box::into_inner(boxed),
         Op::Arrive(..) | Op::Look(..) | Op::Sweep(_) | Op::Stop(_) => before,
     }
 }
@@ -147,15 +147,16 @@ fn record_in<'a>(op: &'a Op, before: &'a Record) -> &'a Record
     ensures { result.now ≡ record_of op.now before.now }
 {
     match op {
-        Op::Publish(record) => record,
+        Op::Publish(boxed) => boxed,
         Op::Arrive(..) | Op::Look(..) | Op::Sweep(_) | Op::Stop(_) => before,
     }
 }
 
-/// What a journal keeps once an operation stands at this place.
+/// What a journal keeps beside its operations once another stands at this place, at its end.
 fn index_with(index: Index, op: &Op, place: usize) -> Index
     requires { index.publications ≤ MAX_ENTRIES }
-    ensures { result ≡ index_with index op.now place }
+    ensures { (ops : List Op) → IsIndexed ops index → CanTake ops op.now → place ≡ length ops
+        → IsIndexed (ops ++ op.now ∷ []) result }
 {
     match op {
         Op::Publish(_) => Index {
@@ -168,6 +169,8 @@ fn index_with(index: Index, op: &Op, place: usize) -> Index
             publications: index.publications,
             stop: Some(*stop),
         },
-        Op::Arrive(..) | Op::Look(..) | Op::Sweep(_) => index,
+        Op::Arrive(..) => index,
+        Op::Look(..) => index,
+        Op::Sweep(_) => index,
     }
 }

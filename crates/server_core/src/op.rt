@@ -33,8 +33,8 @@ pub struct Stop {
 /// What a server takes, one after another. Moments are in 32.32 seconds after the origin.
 #[derive(Drop)]
 pub enum Op {
-    /// This record is published.
-    Publish(Record),
+    /// This record is published, which who publishes it has put into a box.
+    Publish(Box<Record>),
     /// A request for the time came at this moment.
     Arrive(Ask, u64),
     /// A control request came.
@@ -46,4 +46,4 @@ pub enum Op {
 }
 
 // The journal's room is that of each entry times their number, so an entry is to stay small.
-const _: () = prove!(size_of::<Op>() <= 320);
+const _: () = prove!(size_of::<Op>() <= 112);

@@ -8,15 +8,9 @@ use discipline::SoftClock;
 use edge_traits::Octets;
 use fixed_time::{MAX_DISPERSION, PHI, Short, drift, to_short};
 use mac_keys::{Auth, KeyTable};
-use ntp_packet::{HEADER_LEN, Header};
+use ntp_packet::{HEADER_LEN, Header, MODE_SERVER, UNSYNCHRONIZED_STRATUM};
 use ntp_trailer::{append_mac, append_nak};
 use sys_vars::System;
-
-/// The mode of a server's reply (RFC 5905, section 7.3, figure 10).
-pub const MODE_SERVER: u8 = 4;
-
-/// The stratum of a server that is not synchronized (RFC 5905, section 7.3, figure 11).
-pub const UNSYNCHRONIZED: u8 = 16;
 
 /// What a reply is made of: the system and the clock of one record.
 #[derive(Clone, Copy, Debug, PartialEq, Eq)]
@@ -37,9 +31,27 @@ pub fn time_reply(basis: &Basis, ask: &Ask, keys: &KeyTable, came: u64, sent: u6
     ensures shown { Shows keys.now ask.now.auth result }
 {
     let mut reply = Octets::new();
-    reply.put(&ntp_packet::write(&header_of(basis, ask, came, sent)));
-    end(&mut reply, ask.auth, keys);
+    time_reply_into(basis, ask, keys, came, sent, &mut reply);
     reply
+}
+
+/// Puts that reply into octets that are lent, in place of what they have.
+pub fn time_reply_into(
+    basis: &Basis,
+    ask: &Ask,
+    keys: &KeyTable,
+    came: u64,
+    sent: u64,
+    into: &mut Octets,
+)
+    requires key { HasKey keys.now ask.now.auth }
+    ensures value { into.new ≡ time_reply_of basis.now ask.now keys.now came sent }
+    ensures len { IsReplyLength ask.now.auth (length into.new) }
+    ensures shown { Shows keys.now ask.now.auth into.new }
+{
+    into.clear();
+    into.put(&ntp_packet::write(&header_of(basis, ask, came, sent)));
+    end(into, ask.auth, keys);
 }
 
 /// Appends what follows the header of a reply.
@@ -95,7 +107,7 @@ fn header_of(basis: &Basis, ask: &Ask, came: u64, sent: u64) -> Header
 fn stratum_shown(stratum: u8) -> u8
     ensures { result ≡ shown_stratum stratum }
 {
-    if stratum == UNSYNCHRONIZED {
+    if stratum == UNSYNCHRONIZED_STRATUM {
         0
     } else {
         stratum

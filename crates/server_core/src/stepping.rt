@@ -1,50 +1,19 @@
-ghost use Rattle.std.specs.Prelude.{◌≡◌, ◌<◌, ◌⊎◌, [], ◌∷◌, ◌++◌, None, length, IfOk, OnOk, OnErr, IfErr, MatchResult};
+ghost use Rattle.std.specs.Prelude.{◌≡◌, ◌<◌, ◌⊎◌, [], ◌∷◌, ◌++◌, None, IfOk, OnOk, OnErr, MatchResult};
 ghost use Rattle.server_core.specs.Books.{IsShort, MayWant};
 ghost use Rattle.server_core.specs.States.{refusal_of, reply_to, rows_after, stamp_after, state_after};
 
 use crate::arriving::arrive;
 use crate::book::Book;
-use crate::journal::Journal;
 use crate::op::Op;
 use crate::refusing::refusal;
 use crate::step::{Reply, StepFault};
-use crate::verdict::Verdict;
-use fixed_time::Ntp64;
-use recency::{Limits, PlainList, Recency, Steps};
+use recency::{PlainList, Recency, Steps};
 use std::alloc::{AllocError, Global};
 use std::marker::Brand;
 use std::sync::ledger::{Blank, Ledger};
-use sys_vars::Record;
 use sys_vars::answering::answer;
 
 impl Book {
-    /// A server with this record published, an empty client list and the stamp 0. The room of its
-    /// journal and of its list is taken here.
-    pub fn begin(
-        alloc: Global,
-        rec: Record,
-        limits: Limits,
-        origin: Ntp64,
-    ) -> Result<Book, AllocError>
-        ensures published { IfOk result (λ book. book.state.published ≡ rec) }
-        ensures rows { IfOk result (λ book. book.state.rows ≡ []) }
-        ensures stamp { IfOk result (λ book. book.state.stamp ≡ 0) }
-        ensures limits { IfOk result (λ book. book.state.limits ≡ limits) }
-        ensures origin { IfOk result (λ book. book.state.origin ≡ origin) }
-        ensures journal { IfOk result (λ book. book.journal ≡ []) }
-    {
-        let journal = Journal::begin(alloc)?;
-        let list = PlainList::begin(alloc, limits)?;
-        Ok(Book {
-            alloc,
-            origin,
-            opening: rec,
-            journal,
-            list,
-            stamp: 0,
-        })
-    }
-
     /// Takes one operation: its reply and the server after it are those of the definition, and the
     /// journal has it at its end.
     ///

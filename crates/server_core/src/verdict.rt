@@ -1,15 +1,12 @@
-ghost use Rattle.std.specs.Prelude.{◌≡◌, Some, if◌then◌else◌};
-ghost use Rattle.server_core.specs.Verdicts.{basis_of, is_denied, is_due, is_good, is_over_rate, is_to_be_told, rate_verdict};
+ghost use Rattle.std.specs.Prelude.{◌≡◌, Some, IsSome, if◌then◌else◌};
+ghost use Rattle.server_core.specs.Verdicts.{basis_of, is_denied, is_due, is_over_rate, is_to_be_told, rate_verdict};
 
 use crate::class::Ask;
 use crate::reply::Basis;
 use access_rules::{KOD, LIMITED, NOSERVE, NOTRUST, Rate, VERSION, has_flag, over};
-use mac_keys::Auth;
+use ntp_packet::CURRENT_VERSION;
 use recency::Row;
 use sys_vars::Record;
-
-/// The version that the restrict flag `version` demands (RFC 5905).
-pub const CURRENT_VERSION: u8 = 4;
 
 /// What becomes of a request for the time.
 #[derive(Clone, Copy, Debug, PartialEq, Eq)]
@@ -25,10 +22,11 @@ pub enum Verdict {
 }
 
 /// The verdict on a request of a client with these flags that drew this stamp. The row is the
-/// client's after it, None where the client is not listed.
+/// client's after it, None where the client is not listed or its rate is not limited.
 pub(crate) fn judge(rec: &Record, flags: u16, ask: &Ask, stamp: u64, row: Option<Row>) -> Verdict
-    ensures { result ≡ (if is_denied flags ask.now then Verdict.Ignored
+    ensures value { result ≡ (if is_denied flags ask.now then Verdict.Ignored
         else rate_verdict rec.now flags stamp row) }
+    ensures told { result ≡ Verdict.Rate → IsSome row }
 {
     if is_denied(flags, ask) {
         return Verdict::Ignored;
@@ -73,16 +71,7 @@ fn is_denied(flags: u16, ask: &Ask) -> bool
     if has_flag(flags, VERSION) && ask.version != CURRENT_VERSION {
         return true;
     }
-    has_flag(flags, NOTRUST) && !is_good(ask.auth)
-}
-
-fn is_good(auth: Auth) -> bool
-    ensures { result ≡ is_good auth }
-{
-    match auth {
-        Auth::Good(_) => true,
-        Auth::Absent | Auth::Bad => false,
-    }
+    has_flag(flags, NOTRUST) && !ask.auth.is_good()
 }
 
 /// Whether the flags limit the client's rate, and it is over.

@@ -1,12 +1,13 @@
 use Rattle.std.proofs.Common.{refl, inl, inr}
 use Rattle.std.proofs.lemmas.Option.{IfSome_then}
-use Rattle.ntpd_serve.specs.declared.ending.Ending.TheVariants.{Words}
+use Rattle.ntpd_serve.specs.declared.ending.Ending.TheVariants.{Failed}
+use Rattle.ntpd_serve.specs.declared.ending.Failure.TheVariants.{Words}
 use Rattle.ntpd_serve.proofs.CommandLemmas.{IfNone-always, IfNone-then}
 use Rattle.ntpd_serve.proofs.command.ntpd.Goals as goal
 
 pub returns-in-None-clause-before : goal.returns-in-None-clause-before
 returns-in-None-clause-before g c =
-    IfNone-always c.ended_before.result.single (Words, inl (refl, c.in-None.ensures.none.0 refl), refl, c.ended_before.ensures.reported)
+    IfNone-always c.ended_before.result.single (Failed Words, inl (refl, c.in-None.ensures.none.0 refl), refl, c.ended_before.ensures.reported)
 
 pub returns-in-None-clause-words : goal.returns-in-None-clause-words
 returns-in-None-clause-words g c = λ one. c.in-None.ensures.none.0 refl

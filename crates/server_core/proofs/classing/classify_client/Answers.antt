@@ -2,17 +2,17 @@ use Rattle.server_core.proofs.ClassLemmas.{only_packet, only_trailer, only_time}
 use Rattle.server_core.proofs.classing.classify_client.Goals as goal
 
 pub returns-in-Err-clause-only : goal.returns-in-Err-clause-only
-returns-in-Err-clause-only c =
-    only_packet _ _ _ c.in-Err.fault _ c.packet_number.ensures c.requires.mode c.in-Err.ensures.refused (λ header packet. let none = c.in-Err.ensures.only header packet in absurd cc)
+returns-in-Err-clause-only c context =
+    only_packet _ _ _ context c.in-Err.fault _ c.packet_number.ensures c.requires.mode c.in-Err.ensures.refused (λ header packet. let none = c.in-Err.ensures.only header packet in absurd cc)
 
 pub returns-in-Err-split-clause-only : goal.returns-in-Err-split-clause-only
-returns-in-Err-split-clause-only c =
-    only_trailer _ _ _ c.in-Err-split.fault _ c.trailer_number.ensures c.requires.mode c.in-Ok.ensures.refused
+returns-in-Err-split-clause-only c context =
+    only_trailer _ _ _ context c.in-Err-split.fault _ c.trailer_number.ensures c.requires.mode c.in-Ok.ensures.refused
     (λ trailer has. let none = c.in-Err-split.ensures.only trailer has in absurd cc)
     (λ other refused. let one = c.in-Err-split.ensures.due other refused in cc)
 
 pub returns-in-Ok-split-clause-found : goal.returns-in-Ok-split-clause-found
-returns-in-Ok-split-clause-found c = record {
+returns-in-Ok-split-clause-found c context = record {
   header = c.in-Ok.header;
   trailer = c.in-Ok-split.trailer;
   auth = c.auth.result;
@@ -23,8 +23,8 @@ returns-in-Ok-split-clause-found c = record {
 }
 
 pub returns-in-Ok-split-clause-only : goal.returns-in-Ok-split-clause-only
-returns-in-Ok-split-clause-only c =
-    only_time _ _ _ c.in-Ok.header c.in-Ok-split.trailer c.auth.result _ c.requires.mode c.in-Ok.ensures.refused
+returns-in-Ok-split-clause-only c context =
+    only_time _ _ _ context c.in-Ok.header c.in-Ok-split.trailer c.auth.result _ c.requires.mode c.in-Ok.ensures.refused
     (λ other packet. let one = c.in-Ok.ensures.only other packet in cc)
     (λ other has. let one = c.in-Ok-split.ensures.only other has in cc)
     (λ fault refused. let none = c.in-Ok-split.ensures.due fault refused in absurd cc)

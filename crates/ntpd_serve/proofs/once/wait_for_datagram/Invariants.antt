@@ -1,15 +1,13 @@
-use Rattle.std.proofs.Common.{◌≡◌, ◌≤◌}
+use Rattle.std.proofs.Common.{◌≡◌}
+use Rattle.edge_traits.specs.Ports.{IsPortKept}
 use Rattle.edge_traits.specs.Told.{gained, Rose}
 use Rattle.ntpd_serve.specs.Once.{silences}
-use Rattle.ntpd_serve.proofs.once.wait.Given as goal
+use Rattle.ntpd_serve.proofs.once.wait_for_datagram.Given as goal
 
 -- so far only silences came, and the port counted each
 abbrev pub invariant-waiting : goal.invariant-waiting
 invariant-waiting g l = record {
   told : g.P.Port.trace l.port ≡ gained (g.P.Port.trace l.initial.port) (silences l.counter);
   rose : Rose l.counter (g.P.Port.quiets l.initial.port) (g.P.Port.quiets l.port);
-  faults_kept : g.P.Port.faults l.initial.port ≤ g.P.Port.faults l.port;
-  quiets_kept : g.P.Port.quiets l.initial.port ≤ g.P.Port.quiets l.port;
-  address_kept : g.P.Port.address l.port ≡ g.P.Port.address l.initial.port;
-  most_kept : g.P.Port.most l.port ≡ g.P.Port.most l.initial.port;
+  kept : IsPortKept g.P.Port.faults g.P.Port.quiets g.P.Port.address g.P.Port.most l.initial.port l.port;
 }

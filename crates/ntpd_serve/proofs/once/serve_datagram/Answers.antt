@@ -1,0 +1,27 @@
+use Rattle.std.proofs.Common.{◌≡◌, ◌∷◌, List, ℕ, subst}
+use Rattle.net_addr.specs.declared.addr.Addr.{Addr}
+use Rattle.sys_vars.specs.declared.context.Context.{Context}
+use Rattle.server_core.specs.States.{ServerState}
+use Rattle.server_core.specs.declared.response.Response.{Response}
+use Rattle.server_core.specs.Responses.{IsResponse}
+use Rattle.ntpd_serve.specs.declared.once.Common.{Common}
+use Rattle.ntpd_serve.specs.Once.{context_at}
+use Rattle.ntpd_serve.proofs.OnceLemmas.{Follows-GivesResponse, Grows-Grows}
+use Rattle.ntpd_serve.proofs.once.serve_datagram.Goals as goal
+
+-- the response to the octets that were lent is that to the datagram
+response_to_datagram : (s : ServerState) (common : Common) (came : ℕ) (context : Context) (from : Addr) (lent octets : List ℕ) (response : Response) → context ≡ context_at common came → lent ≡ octets → IsResponse s common.keys context from lent response → IsResponse s common.keys (context_at common came) from octets response
+response_to_datagram s common came context from lent octets response here same is =
+    subst (λ (o : List ℕ). IsResponse s common.keys (context_at common came) from o response) same
+    (subst (λ (k : Context). IsResponse s common.keys k from lent response) here is)
+
+pub returns-in-Ok-clause-follows : goal.returns-in-Ok-clause-follows
+returns-in-Ok-clause-follows g c =
+    let gives = c.send_response.ensures.gives in
+    let is = response_to_datagram c.args.book.now.state c.args.common.now c.now-came.result c.context_at-context.result c.args.from.now _ c.args.datagram.now c.in-Ok.response c.context_at-context.ensures c.as_slice.ensures.same c.in-Ok.ensures.response in (
+      gives.0,
+      c.now-came.result ∷ gives.1,
+      Follows-GivesResponse c.args.common.now c.args.book.now.state c.args.from.now c.args.datagram.now c.now-came.result c.in-Ok.response c.send_response.result gives.0 gives.1 is gives.2,
+      gives.3,
+      Grows-Grows _ _ _ _ _ c.now-came.ensures gives.4,
+    )
