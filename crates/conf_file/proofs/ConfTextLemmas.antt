@@ -1,7 +1,7 @@
 -- Configuration files: what lines leave to read.
 use Rattle.std.proofs.Common.{◌≡◌, ℕ, ◌+◌, ◌-◌, ◌^◌, min, map, List, [], ◌∷◌, Option, Some, None, Ok, Err, refl, sym, ap, subst, ◌∙◌, arith, inl, inr}
 use Rattle.text_words.specs.Lines.{lines_of}
-use Rattle.text_words.specs.Numbers.{told_number}
+use Rattle.refusals.specs.Told.{told_number}
 use Rattle.text_words.specs.Words.{words_of}
 use Rattle.access_rules.specs.declared.rules.Rule.{Rule}
 use Rattle.access_rules.specs.Rules.{AreWholes, IsWholeOf}

@@ -1,6 +1,6 @@
 -- Options of a line, word after word: our own rule.
 use Rattle.std.specs.Prelude.{◌≡◌, ℕ, ◌+◌, List, [], ◌∷◌, Option, Some, None, Result, Ok, IfOk, IfErr, ◌⊎◌}
-use Rattle.text_words.specs.Numbers.{told_number}
+use Rattle.refusals.specs.Told.{told_number}
 use Rattle.refusals.specs.Refusals.{IsRefusedAt}
 use Rattle.conf_file.specs.declared.lines.Line.{Line}
 

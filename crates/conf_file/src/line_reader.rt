@@ -1,5 +1,5 @@
 ghost use Rattle.std.specs.Prelude.{◌≡◌, ◌+◌, length, OnOk, IfErr};
-ghost use Rattle.text_words.specs.Numbers.{told_number};
+ghost use Rattle.refusals.specs.Told.{told_number};
 ghost use Rattle.text_words.specs.Words.{words_of};
 ghost use Rattle.conf_file.specs.ConfLines.{IsConfLine, IsReadOr};
 ghost use Rattle.conf_file.specs.ConfTexts.{IsDue, IsTakenAlone, refusal_of};

@@ -2,7 +2,7 @@
 use Rattle.std.proofs.Common.{◌≡◌, ℕ, ◌+◌, ◌-◌, ◌^◌, ◌≤◌, min, map, List, [], ◌∷◌, ◌++◌, length, length-append, append_assoc, Option, Some, None, refl, sym, ap, subst, ◌∙◌, arith}
 use Rattle.std.proofs.lemmas.List.{append-nil}
 use Rattle.text_words.specs.Lines.{lines_of}
-use Rattle.text_words.specs.Numbers.{told_number}
+use Rattle.refusals.specs.Told.{told_number}
 use Rattle.text_words.specs.Words.{words_of}
 use Rattle.mac_keys.specs.declared.keys.Key.{Key}
 use Rattle.mac_keys.specs.declared.key_files.KeysFault.{KeysFault}

@@ -1,7 +1,7 @@
 -- Key files, line after line: our own rule.
 use Rattle.std.specs.Prelude.{◌≡◌, ℕ, ◌+◌, ◌<◌, List, [], ◌∷◌, ◌++◌, length, map, Option, Some, None, Result, Err, ◌⊎◌}
 use Rattle.text_words.specs.Lines.{lines_of}
-use Rattle.text_words.specs.Numbers.{told_number}
+use Rattle.refusals.specs.Told.{told_number}
 use Rattle.text_words.specs.Words.{words_of}
 use Rattle.refusals.specs.Refusals.{IsRefusedAt}
 use Rattle.mac_keys.specs.declared.keys.Key.{Key}

@@ -1,6 +1,7 @@
 -- Worked texts: with the grammar "a one, and a number, which it means", some texts and where they are refused.
-use Rattle.std.proofs.Common.{◌≡◌, ℕ, List, [], ◌∷◌, refl, lit≤}
+use Rattle.std.proofs.Common.{◌≡◌, ℕ, ◌-◌, ◌^◌, List, [], ◌∷◌, refl, lit≤}
 use Rattle.refusals.specs.Refusals.{IsRefusedAt}
+use Rattle.refusals.specs.Told.{told_number}
 
 -- the text is a one and the number
 abbrev IsPair : List ℕ → ℕ → Type 0
@@ -29,3 +30,10 @@ third_number number = record {
   goes_on = ([], 7, refl);
   stops = λ (more, other, is). cc;
 }
+
+-- the greatest number that is told, and the next one, which is told as it
+greatest : told_number (2 ^ 32 - 1) ≡ 4294967295
+greatest = refl
+
+beyond : told_number (2 ^ 32) ≡ 4294967295
+beyond = refl

@@ -1,2 +1,4 @@
-pub mod Refusals
+pub mod Lines
 pub mod Machines
+pub mod Refusals
+pub mod Told

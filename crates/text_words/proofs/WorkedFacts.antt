@@ -1,7 +1,9 @@
--- Worked lines and words, computed.
-use Rattle.std.proofs.Common.{◌≡◌, [], ◌∷◌, refl}
+-- Worked lines, words and numbers, computed.
+use Rattle.std.proofs.Common.{◌≡◌, ℕ, [], ◌∷◌, decimal, refl, sym, ap, ◌∙◌, length, lit≤, lit<, arith}
+use Rattle.std.proofs.lemmas.Fmt.{decimal_digit}
 use Rattle.std.specs.Prelude.{codes}
 use Rattle.text_words.specs.Lines.{lines_of}
+use Rattle.text_words.specs.Numbers.{SpellsNumber}
 use Rattle.text_words.specs.Words.{words_of}
 
 -- words stand between spaces and tabs, and a comment has none
@@ -21,3 +23,13 @@ three_lines = refl
 
 empty_lines : lines_of (codes "\n") ≡ [] ∷ [] ∷ []
 empty_lines = refl
+
+-- a number stands within its bounds, and has no zero that says nothing
+at_least : SpellsNumber 4 17 (codes "4") 4
+at_least = (sym (decimal_digit 4 (lit< tt)), lit≤ tt, lit≤ tt)
+
+above : (number : ℕ) → ¬ SpellsNumber 18 17 (codes "18") number
+above number (spelled, least, most) = omega (arith, least, most)
+
+two_zeros : ¬ (codes "00" ≡ decimal 0)
+two_zeros same = omega (arith, ap length (same ∙ decimal_digit 0 (lit< tt)))

@@ -1,6 +1,6 @@
--- Numbers of lines and words, as they are told: our own rule.
-use Rattle.std.specs.Prelude.{ℕ, ◌-◌, ◌^◌, min}
+-- Numbers as words spell them: our own rule.
+use Rattle.std.specs.Prelude.{◌≡◌, ℕ, ◌≤◌, List, decimal}
 
--- a number as it is told in 32 bits: what is longer is told as the greatest of them
-abbrev pub told_number : ℕ → ℕ
-told_number n = min n (2 ^ 32 - 1)
+-- The word is a number from least to most in decimal, without leading zeros, since `decimal` writes each number in one way.
+abbrev pub SpellsNumber : ℕ → ℕ → List ℕ → ℕ → Type 0
+SpellsNumber least most word number = (word ≡ decimal number) × (least ≤ number) × (number ≤ most)

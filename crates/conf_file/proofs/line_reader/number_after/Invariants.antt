@@ -1,5 +1,5 @@
 use Rattle.std.proofs.Common.{◌≡◌, ◌+◌, ℕ, length}
-use Rattle.text_words.specs.Numbers.{told_number}
+use Rattle.refusals.specs.Told.{told_number}
 use Rattle.conf_file.proofs.line_reader.number_after.Given as goal
 
 -- what is counted, and the words that are left
