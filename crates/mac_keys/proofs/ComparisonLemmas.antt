@@ -1,5 +1,5 @@
 -- Differences of octets, gathered in one number.
-use Rattle.std.proofs.Common.{◌≡◌, ◌↔◌, ℕ, ◌+◌, ◌*◌, ◌<◌, ◌≤◌, List, [], ◌∷◌, ◌++◌, length, get_or, take, refl, sym, ap, ◌∙◌, bit_and, bit_or, bit_xor, add-one, take-suc, take-take, get_or-take, arith}
+use Rattle.std.proofs.Common.{◌≡◌, ◌↔◌, ℕ, ◌+◌, ◌<◌, List, length, get_or, take, refl, sym, ap, ◌∙◌, bit_or, bit_xor, add-one, take-suc, take-take, get_or-take, arith}
 use Rattle.std.specs.Int.Bits.{xor_self, xor_add_and, or_zero_l}
 use Rattle.std.proofs.lemmas.Nat.{and_le_l, and_le_r, le_or_l, le_or_r}
 

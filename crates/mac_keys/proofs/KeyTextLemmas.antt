@@ -1,59 +1,65 @@
--- Key files: tables after lines.
-use Rattle.std.proofs.Common.{◌≡◌, ℕ, ◌+◌, ◌-◌, ◌^◌, ◌≤◌, min, map, List, [], ◌∷◌, ◌++◌, length, length-append, append_assoc, Option, Some, None, refl, sym, ap, subst, ◌∙◌, arith}
-use Rattle.std.proofs.lemmas.List.{append-nil}
-use Rattle.text_words.specs.Lines.{lines_of}
-use Rattle.refusals.specs.Told.{told_number}
-use Rattle.text_words.specs.Words.{words_of}
+-- Key files: what lines leave to read, and the answer that is due.
+use Rattle.std.proofs.Common.{◌≡◌, ℕ, ◌+◌, ◌-◌, ◌^◌, min, map, List, [], ◌∷◌, Result, Ok, Err, IsErr, IfErr, refl, sym, ap, subst, ◌∙◌, inl, inr}
+use Rattle.text_words.specs.Words.{lines_as_words, words_of}
+use Rattle.refusals.specs.Lines.{IsTaken}
+use Rattle.refusals.specs.Told.{IsUnless}
+use Rattle.refusals.proofs.LineLemmas.{IsReadTo, read_more, read_refused, read_refused_once, read_refused_untaken, refused_alone, taken_alone}
 use Rattle.mac_keys.specs.declared.keys.Key.{Key}
 use Rattle.mac_keys.specs.declared.key_files.KeysFault.{KeysFault}
 use Rattle.mac_keys.specs.declared.key_files.KeysFault.TheVariants.{At, NoMemory}
-use Rattle.mac_keys.specs.KeyTexts.{IsAfter, IsFault, IsKeyText, IsLineFault, IsTaken, key_lines}
-
--- one more line, after others
-pub IsAfter-push : (lines : List (List (List ℕ))) (line : List (List ℕ)) (keys middle table : List Key) → IsAfter keys lines middle → IsTaken middle line table → IsAfter keys (lines ++ line ∷ []) table
-IsAfter-push [] line keys middle table after taken =
-    let P : List Key → Type 0 = λ k. IsTaken k line table in
-    (table, subst P after taken, refl)
-IsAfter-push (first ∷ lines) line keys middle table (next, one, others) taken = (next, one, IsAfter-push lines line next middle table others taken)
+use Rattle.mac_keys.specs.KeyTexts.{IsFault, IsKeyText, IsLineFault, IsRefusedText, key_grammar}
+use Rattle.mac_keys.proofs.OneAnswerLemmas.{key_grammar_is_one}
 
 -- so many lines of a text are read, and made this table
-abbrev pub IsReadTo : List ℕ → List (List ℕ) → ℕ → List Key → Type 0
-IsReadTo text lines number keys = (before : List (List (List ℕ))) × (key_lines text ≡ before ++ map words_of lines) × (number ≡ told_number (length before)) × IsAfter [] before keys
-
--- nothing is read of a text at first
-pub read_none : (text : List ℕ) (lines : List (List ℕ)) → lines ≡ lines_of text → IsReadTo text lines 0 []
-read_none text lines all = ([], sym (ap (map words_of) all), refl, refl)
+abbrev pub AreReadTo : List ℕ → List (List ℕ) → ℕ → List Key → Type 0
+AreReadTo text lines number keys = IsReadTo key_grammar [] (lines_as_words text) (map words_of lines) number keys
 
 -- a line more is read
-pub read_more : (text line : List ℕ) (lines rest : List (List ℕ)) (number more : ℕ) (keys table : List Key) → IsReadTo text lines number keys → lines ≡ line ∷ rest
-    → more ≡ min (number + 1) (2 ^ 32 - 1) → IsTaken keys (words_of line) table → IsReadTo text rest more table
-read_more text line lines rest number more keys table (before, cut, count, after) is one taken = (
-  before ++ words_of line ∷ [],
-  cut ∙ ap (λ ls. before ++ map words_of ls) is ∙ sym (append_assoc before (words_of line ∷ []) (map words_of rest)),
-  omega (arith, length-append before (words_of line ∷ [])),
-  IsAfter-push before (words_of line) [] keys table after taken,
-)
-
--- a text whose lines are all read spells the table
-pub read_all : (text : List ℕ) (lines : List (List ℕ)) (number : ℕ) (keys : List Key) → IsReadTo text lines number keys → lines ≡ [] → IsKeyText text keys
-read_all text lines number keys (before, cut, count, after) ended =
-    let whole : key_lines text ≡ before = cut ∙ ap (λ ls. before ++ map words_of ls) ended ∙ append-nil before in
-    let P : List (List (List ℕ)) → Type 0 = λ ls. IsAfter [] ls keys in
-    subst P (sym whole) after
+pub take_more : (text line : List ℕ) (lines rest : List (List ℕ)) (number more : ℕ) (keys table : List Key) → AreReadTo text lines number keys → lines ≡ line ∷ rest
+    → more ≡ min (number + 1) (2 ^ 32 - 1) → IsTaken key_grammar keys (words_of line) table → AreReadTo text rest more table
+take_more text line lines rest number more keys table read is one taken =
+    read_more key_grammar [] (lines_as_words text) (map words_of lines) (map words_of rest) (words_of line) number more keys table read (ap (map words_of) is) one
+    (taken_alone key_grammar key_grammar_is_one keys (words_of line) table taken)
 
 -- a fault of the next line is the text's
-pub read_fault : (text line : List ℕ) (lines rest : List (List ℕ)) (number more : ℕ) (keys : List Key) (fault : KeysFault) → IsReadTo text lines number keys → lines ≡ line ∷ rest
+due_fault : (text line : List ℕ) (lines rest : List (List ℕ)) (number more : ℕ) (keys : List Key) (fault : KeysFault) → AreReadTo text lines number keys → lines ≡ line ∷ rest
     → more ≡ min (number + 1) (2 ^ 32 - 1) → IsLineFault keys (words_of line) more fault → IsFault text fault
-read_fault text line lines rest number more keys (At at word) (before, cut, count, after) is one (same, place, refused, told) = record {
-  before = before;
-  refused = words_of line;
-  behind = map words_of rest;
-  keys = keys;
-  place = place;
-  cut = cut ∙ ap (λ ls. before ++ map words_of ls) is;
-  after = after;
-  here = refused;
-  line_told = omega arith;
-  word_told = told;
-}
-read_fault text line lines rest number more keys NoMemory read is one fault = tt
+due_fault text line lines rest number more keys (At at word) read is one (same, place, refused, told) =
+    let P : ℕ → Type 0 = λ l. IsRefusedText text l word in
+    subst P (sym same) (read_refused key_grammar [] (lines_as_words text) (map words_of lines) (map words_of rest) (words_of line) number more place word keys read (ap (map words_of) is) one
+    (refused_alone key_grammar key_grammar_is_one keys (words_of line) place refused) told)
+due_fault text line lines rest number more keys NoMemory read is one fault = tt
+
+-- and the only one
+due_once : (text line : List ℕ) (lines rest : List (List ℕ)) (number more at_line at_word : ℕ) (keys : List Key) (fault : KeysFault) → AreReadTo text lines number keys → lines ≡ line ∷ rest
+    → more ≡ min (number + 1) (2 ^ 32 - 1) → IsLineFault keys (words_of line) more fault → IsRefusedText text at_line at_word → IsUnless {V = List Key} NoMemory (Err fault) (Err (At at_line at_word))
+due_once text line lines rest number more at_line at_word keys (At at word) read is one (same, place, refused, told) other =
+    let (lines_same, words_same) = read_refused_once key_grammar [] (lines_as_words text) (map words_of lines) (map words_of rest) (words_of line) number more place word at_line at_word keys read
+    (ap (map words_of) is) one (refused_alone key_grammar key_grammar_is_one keys (words_of line) place refused) told other in
+    inl (ap (λ l. Err (At l word)) (same ∙ lines_same) ∙ ap (λ w. Err (At at_line w)) words_same)
+due_once text line lines rest number more at_line at_word keys NoMemory read is one fault other = inr refl
+
+-- and the text spells no table
+due_no_keys : (text line : List ℕ) (lines rest : List (List ℕ)) (number more : ℕ) (keys others : List Key) (fault : KeysFault) → AreReadTo text lines number keys → lines ≡ line ∷ rest
+    → IsLineFault keys (words_of line) more fault → IsKeyText text others → IsUnless NoMemory (Err fault) (Ok others)
+due_no_keys text line lines rest number more keys others (At at word) read is (same, place, refused, told) spelled =
+    absurd (read_refused_untaken key_grammar [] (lines_as_words text) (map words_of lines) (map words_of rest) (words_of line) number place keys others read (ap (map words_of) is)
+    (refused_alone key_grammar key_grammar_is_one keys (words_of line) place refused) spelled)
+due_no_keys text line lines rest number more keys others NoMemory read is fault spelled = inr refl
+
+-- the same of an answer that is such a fault
+pub due_fault_in : (text line : List ℕ) (lines rest : List (List ℕ)) (number more : ℕ) (keys : List Key) (result : Result (List Key) KeysFault) → AreReadTo text lines number keys → lines ≡ line ∷ rest
+    → more ≡ min (number + 1) (2 ^ 32 - 1) → IsErr result → IfErr result (IsLineFault keys (words_of line) more) → IfErr result (IsFault text)
+due_fault_in text line lines rest number more keys (Ok table) read is one bad fault = cc
+due_fault_in text line lines rest number more keys (Err why) read is one bad fault = due_fault text line lines rest number more keys why read is one fault
+
+pub due_once_in : (text line : List ℕ) (lines rest : List (List ℕ)) (number more at_line at_word : ℕ) (keys : List Key) (result : Result (List Key) KeysFault) → AreReadTo text lines number keys
+    → lines ≡ line ∷ rest → more ≡ min (number + 1) (2 ^ 32 - 1) → IsErr result → IfErr result (IsLineFault keys (words_of line) more) → IsRefusedText text at_line at_word
+    → IsUnless NoMemory result (Err (At at_line at_word))
+due_once_in text line lines rest number more at_line at_word keys (Ok table) read is one bad fault other = cc
+due_once_in text line lines rest number more at_line at_word keys (Err why) read is one bad fault other = due_once text line lines rest number more at_line at_word keys why read is one fault other
+
+pub due_no_keys_in : (text line : List ℕ) (lines rest : List (List ℕ)) (number more : ℕ) (keys others : List Key) (result : Result (List Key) KeysFault) → AreReadTo text lines number keys
+    → lines ≡ line ∷ rest → IsErr result → IfErr result (IsLineFault keys (words_of line) more) → IsKeyText text others → IsUnless NoMemory result (Ok others)
+due_no_keys_in text line lines rest number more keys others (Ok table) read is bad fault spelled = cc
+due_no_keys_in text line lines rest number more keys others (Err why) read is bad fault spelled = due_no_keys text line lines rest number more keys others why read is fault spelled

@@ -4,3 +4,4 @@ pub mod KeyTextLemmas
 pub mod KeyWordLemmas
 pub mod OneAnswerLemmas
 pub mod TableLemmas
+mod WorkedFacts

@@ -1,27 +1,20 @@
 -- Lines of a key file, each with an id, a type and a secret: our own rule.
-use Rattle.std.specs.Prelude.{◌≡◌, ℕ, ◌+◌, ◌-◌, ◌*◌, nat_le, ◌==◌, ◌&&◌, if◌then◌else◌, not, Bool, true, false, List, [], ◌∷◌, length, fold, slice_index, codes, Option, Some, None, ◌⊎◌}
+use Rattle.std.specs.Prelude.{◌≡◌, ℕ, ◌==◌, ◌&&◌, if◌then◌else◌, not, Bool, true, false, List, [], ◌∷◌, length, codes, Option, Some, None}
 use Rattle.std.specs.List.{list_all}
 use Rattle.std.specs.Int.{is_in_range}
-use Rattle.std.specs.Char.{is_ascii_digit, to_ascii_uppercase}
+use Rattle.std.specs.Char.{to_ascii_uppercase}
 use Rattle.std.specs.Result.{result_ok}
 use Rattle.hex.specs.Hex.{decode_of}
+use Rattle.text_words.specs.Numbers.{SpellsNumber}
 use Rattle.mac_keys.specs.declared.keys.Key.{Key}
 use Rattle.mac_keys.specs.declared.keys.Algorithm.TheVariants.{Md5, Sha1, Sha256}
+use Rattle.mac_keys.specs.declared.keys.TheConstants.{MAX_HEX_DIGITS, MAX_KEY_ID, MAX_PLAIN_SECRET, MIN_HEX_DIGITS, MIN_KEY_ID}
 use Rattle.mac_keys.specs.declared.key_types.KeyType.{KeyType}
 use Rattle.mac_keys.specs.declared.key_types.KeyType.TheVariants.{Hashed, Skipped}
 
--- the number whose decimal digits stand behind those of n
-abbrev pub decimal_from : ℕ → List ℕ → ℕ
-decimal_from n [] = n
-decimal_from n (digit ∷ digits) = decimal_from (10 * n + (digit - 48)) digits
-
--- whether a word is an id: decimal digits without a leading zero, for 1 to 65535
-abbrev pub is_id : List ℕ → Bool
-is_id word = not (slice_index word 0 == 48) && list_all is_ascii_digit word && is_in_range 1 65535 (decimal_from 0 word)
-
--- the id that a word spells
-abbrev pub id_of : List ℕ → Option ℕ
-id_of word = if is_id word then Some (decimal_from 0 word) else None
+-- the word is an id: a number of 1 to 65535
+abbrev pub IsId : List ℕ → ℕ → Type 0
+IsId word id = SpellsNumber MIN_KEY_ID MAX_KEY_ID word id
 
 -- whether a word begins with these capitals, in either case
 abbrev pub begins : List ℕ → List ℕ → Bool
@@ -48,11 +41,11 @@ is_plain_octet octet = is_in_range 33 126 octet && not (octet == 35)
 
 -- whether a word is a plain secret
 abbrev pub is_plain : List ℕ → Bool
-is_plain word = is_in_range 1 20 (length word) && list_all is_plain_octet word
+is_plain word = is_in_range 1 MAX_PLAIN_SECRET (length word) && list_all is_plain_octet word
 
 -- the octets of a word of hexadecimal digits, 22 to 128 of them and an even number
 abbrev pub hex_secret_of : List ℕ → Option (List ℕ)
-hex_secret_of word = if is_in_range 22 128 (length word) then result_ok (decode_of word) else None
+hex_secret_of word = if is_in_range MIN_HEX_DIGITS MAX_HEX_DIGITS (length word) then result_ok (decode_of word) else None
 
 -- the octets of the secret that a word spells: its own, or those that its hexadecimal digits spell
 abbrev pub secret_of : List ℕ → Option (List ℕ)
@@ -68,5 +61,5 @@ abbrev pub IsKeyLine : List (List ℕ) → Option Key → Type 0
 IsKeyLine [] meaning = meaning ≡ None
 IsKeyLine (id ∷ []) meaning = ⊥
 IsKeyLine (id ∷ type ∷ []) meaning = ⊥
-IsKeyLine (id ∷ type ∷ secret ∷ []) meaning = (number : ℕ) × (key_type : KeyType) × (id_of id ≡ Some number) × (type_of type ≡ Some key_type) × IsKeyOf number key_type secret meaning
+IsKeyLine (id ∷ type ∷ secret ∷ []) meaning = (number : ℕ) × (key_type : KeyType) × IsId id number × (type_of type ≡ Some key_type) × IsKeyOf number key_type secret meaning
 IsKeyLine (id ∷ type ∷ secret ∷ more ∷ words) meaning = ⊥

@@ -1,9 +1,8 @@
 -- Key files, line after line: our own rule.
-use Rattle.std.specs.Prelude.{◌≡◌, ℕ, ◌+◌, ◌<◌, List, [], ◌∷◌, ◌++◌, length, map, Option, Some, None, Result, Err, ◌⊎◌}
-use Rattle.text_words.specs.Lines.{lines_of}
+use Rattle.std.specs.Prelude.{◌≡◌, ℕ, ◌+◌, ◌<◌, List, [], length, Option, Some, None}
+use Rattle.text_words.specs.Words.{lines_as_words}
+use Rattle.refusals.specs.Lines.{Lines, IsAfter, IsFirstRefused, IsRefusedIn}
 use Rattle.refusals.specs.Told.{told_number}
-use Rattle.text_words.specs.Words.{words_of}
-use Rattle.refusals.specs.Refusals.{IsRefusedAt}
 use Rattle.mac_keys.specs.declared.keys.Key.{Key}
 use Rattle.mac_keys.specs.declared.tables.TheConstants.{MAX_KEYS}
 use Rattle.mac_keys.specs.declared.key_files.KeysFault.{KeysFault}
@@ -21,51 +20,33 @@ abbrev pub IsAdded : List Key → Option Key → List Key → Type 0
 IsAdded keys None table = table ≡ keys
 IsAdded keys (Some key) table = IsAdmitted keys key × (table ≡ with_key keys key)
 
--- a table after a line
-abbrev pub IsTaken : List Key → List (List ℕ) → List Key → Type 0
-IsTaken keys line table = (meaning : Option Key) × IsKeyLine line meaning × IsAdded keys meaning table
+-- a line whose key a table does not take is refused at its first word
+abbrev pub IsUnadmitted : List Key → Option Key → List (List ℕ) → ℕ → Type 0
+IsUnadmitted keys None line place = ⊥
+IsUnadmitted keys (Some key) line place = (¬ IsAdmitted keys key) × (place ≡ 0)
 
--- a table after lines, one after another
-abbrev pub IsAfter : List Key → List (List (List ℕ)) → List Key → Type 0
-IsAfter keys [] table = table ≡ keys
-IsAfter keys (line ∷ lines) table = (next : List Key) × IsTaken keys line next × IsAfter next lines table
-
--- the lines of a key file, as their words
-abbrev pub key_lines : List ℕ → List (List (List ℕ))
-key_lines text = map words_of (lines_of text)
+-- the grammar of a key file, line by line, each in the table that those before it made
+abbrev pub key_grammar : Lines (List Key) (List ℕ) (Option Key)
+key_grammar = record {
+  means = λ keys line meaning. IsKeyLine line meaning;
+  takes = IsAdded;
+  refuses = IsUnadmitted;
+}
 
 -- the keys that a text spells
 abbrev pub IsKeyText : List ℕ → List Key → Type 0
-IsKeyText text keys = IsAfter [] (key_lines text) keys
-
--- so many words stand before the first one of a line that is refused: no line goes on with it, or, at the first word,
--- the table does not take the key
-abbrev pub IsRefusedIn : List Key → List (List ℕ) → ℕ → Type 0
-IsRefusedIn keys line place = IsRefusedAt IsKeyLine line place ⊎ ((key : Key) × IsKeyLine line (Some key) × (¬ IsAdmitted keys key) × (place ≡ 0))
+IsKeyText text keys = IsAfter key_grammar [] (lines_as_words text) keys
 
 -- the first refused line of a text and its first refused word, both counted from 1
-pub record IsFirstRefused (text : List ℕ) (line word : ℕ) : Type 0 where
-  pub before : List (List (List ℕ))
-  pub refused : List (List ℕ)
-  pub behind : List (List (List ℕ))
-  pub keys : List Key
-  pub place : ℕ
-  pub cut : key_lines text ≡ before ++ refused ∷ behind
-  pub after : IsAfter [] before keys
-  pub here : IsRefusedIn keys refused place
-  pub line_told : line ≡ told_number (length before + 1)
-  pub word_told : word ≡ place + 1
+abbrev pub IsRefusedText : List ℕ → ℕ → ℕ → Type 0
+IsRefusedText text line word = IsFirstRefused key_grammar [] (lines_as_words text) line word
 
 -- a fault that is due: want of memory comes freely
 abbrev pub IsFault : List ℕ → KeysFault → Type 0
-IsFault text (At line word) = IsFirstRefused text line word
+IsFault text (At line word) = IsRefusedText text line word
 IsFault text NoMemory = Unit {0}
 
 -- a fault that is due at a line of this number
 abbrev pub IsLineFault : List Key → List (List ℕ) → ℕ → KeysFault → Type 0
-IsLineFault keys line number (At at word) = (at ≡ number) × (place : ℕ) × IsRefusedIn keys line place × (word ≡ place + 1)
+IsLineFault keys line number (At at word) = (at ≡ number) × (place : ℕ) × IsRefusedIn key_grammar keys line place × (word ≡ told_number (place + 1))
 IsLineFault keys line number NoMemory = Unit {0}
-
--- the answer is this one, or memory was wanting
-abbrev pub IsUnlessNoMemory : Result (List Key) KeysFault → Result (List Key) KeysFault → Type 0
-IsUnlessNoMemory result wanted = (result ≡ wanted) ⊎ (result ≡ Err NoMemory)

@@ -1,5 +1,5 @@
 -- Tables of keys, ascending by id: our own words.
-use Rattle.std.specs.Prelude.{◌≡◌, ℕ, ◌<◌, ◌≤◌, ◌==◌, nat_lt, List, length, Option, find, insert}
+use Rattle.std.specs.Prelude.{ℕ, ◌<◌, ◌≤◌, ◌==◌, nat_lt, List, length, Option, find, insert}
 use Rattle.std.specs.List.{AllPairs, prefix_len}
 use Rattle.mac_keys.specs.declared.keys.Key.{Key}
 use Rattle.mac_keys.specs.declared.tables.TheConstants.{MAX_KEYS}

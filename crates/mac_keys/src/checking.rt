@@ -1,9 +1,11 @@
-ghost use Rattle.std.specs.Prelude.{◌≡◌, ◌↔◌};
-ghost use Rattle.mac_keys.specs.Checks.{IsAuthentic};
+ghost use Rattle.std.specs.Prelude.{◌≡◌, ◌↔◌, IsTrue};
+ghost use Rattle.mac_keys.specs.Checks.{IsAuthentic, is_good};
+ghost use Rattle.mac_keys.specs.Digests.{digest_of};
 ghost use Rattle.mac_keys.specs.declared.checking.Auth.TheVariants.{Good, Bad};
 
 use crate::comparing::is_same;
 use crate::digesting::digest;
+use crate::keys::Key;
 use crate::tables::KeyTable;
 
 /// What a message authentication code shows: there is none, it is that of the key with this id, or it
@@ -15,6 +17,18 @@ pub enum Auth {
     Bad,
 }
 
+impl Auth {
+    /// Whether the code is that of a key.
+    pub fn is_good(self) -> bool
+        ensures { result ≡ is_good self }
+    {
+        match self {
+            Auth::Good(_) => true,
+            Auth::Absent | Auth::Bad => false,
+        }
+    }
+}
+
 /// What a digest of the message shows that was given for the key with this id: good exactly where
 /// the table has the key and the digest is its own, else bad.
 pub fn check(keys: &KeyTable, id: u32, message: &[u8], given: &[u8]) -> Auth
@@ -22,9 +36,16 @@ pub fn check(keys: &KeyTable, id: u32, message: &[u8], given: &[u8]) -> Auth
     ensures bad { (result ≡ Bad) ↔ ¬ IsAuthentic keys.now id message.now given.now }
 {
     match keys.find(id) {
-        Some(key) if is_same(digest(key, message).as_slice(), given) => Auth::Good(id),
+        Some(key) if is_authentic(key, message, given) => Auth::Good(id),
         _ => Auth::Bad,
     }
+}
+
+/// Whether a digest is that of the message under this key, for a caller who has the key at hand.
+pub fn is_authentic(key: &Key, message: &[u8], given: &[u8]) -> bool
+    ensures { IsTrue result ↔ (given.now ≡ digest_of key.now message.now) }
+{
+    is_same(digest(key, message).as_slice(), given)
 }
 
 #[cfg(test)]
@@ -58,6 +79,7 @@ mod tests {
         ];
         for (id, message, given, auth) in cases {
             assert_eq!(rt; check(&keys, id, message, given), auth, "{id} {message:?}");
+            assert_eq!(rt; auth.is_good(), auth == Auth::Good(9));
         }
         Ok(())
     }

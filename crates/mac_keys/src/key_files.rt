@@ -1,7 +1,9 @@
 ghost use Rattle.std.specs.Prelude.{◌≡◌, ◌+◌, ◌↔◌, ℕ, List, Ok, Err, IfOk, IfErr, OnOk, IsTrue};
+ghost use Rattle.refusals.specs.Lines.{IsTaken};
+ghost use Rattle.refusals.specs.Told.{IsUnless};
 ghost use Rattle.text_words.specs.Words.{words_of};
-ghost use Rattle.mac_keys.specs.KeyTexts.{IsAdmitted, IsFault, IsFirstRefused, IsKeyText, IsLineFault, IsTaken, IsUnlessNoMemory};
-ghost use Rattle.mac_keys.specs.declared.key_files.KeysFault.TheVariants.{At};
+ghost use Rattle.mac_keys.specs.KeyTexts.{IsAdmitted, IsFault, IsKeyText, IsLineFault, IsRefusedText, key_grammar};
+ghost use Rattle.mac_keys.specs.declared.key_files.KeysFault.TheVariants.{At, NoMemory};
 ghost use Rattle.mac_keys.specs.declared.keys.Key.{Key};
 
 use crate::key_lines::read_line;
@@ -36,12 +38,12 @@ impl From<AllocError> for KeysFault {
 /// Lines and words are those of `text_words`. A line whose type begins with AES is skipped.
 pub fn read_keys(alloc: Global, text: &[u8]) -> Result<KeyTable, KeysFault>
     ensures found { IfOk result (IsKeyText text.now) }
-    ensures only { (keys : List Key) → IsKeyText text.now keys → IsUnlessNoMemory result (Ok keys) }
+    ensures only { (keys : List Key) → IsKeyText text.now keys → IsUnless NoMemory result (Ok keys) }
 
     // The refusals: want of memory comes freely, and the place exactly.
     ensures refused { IfErr result (IsFault text.now) }
-    ensures refused_only { (line word : ℕ) → IsFirstRefused text.now line word
-        → IsUnlessNoMemory result (Err (At line word)) }
+    ensures refused_only { (line word : ℕ) → IsRefusedText text.now line word
+        → IsUnless NoMemory result (Err (At line word)) }
 {
     let mut keys = KeyTable::new(alloc);
     let mut lines = Lines::of(text);
@@ -55,7 +57,7 @@ pub fn read_keys(alloc: Global, text: &[u8]) -> Result<KeyTable, KeysFault>
 
 /// Adds the key of a line, if it has one.
 fn take_line(keys: &mut KeyTable, number: u32, line: &[u8]) -> Result<(), KeysFault>
-    ensures taken { OnOk result (IsTaken keys.old (words_of line.now) keys.new) }
+    ensures taken { OnOk result (IsTaken key_grammar keys.old (words_of line.now) keys.new) }
     ensures refused { IfErr result (IsLineFault keys.old (words_of line.now) number) }
 {
     match read_line(line) {

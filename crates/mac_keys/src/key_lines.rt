@@ -1,12 +1,15 @@
 ghost use Rattle.std.specs.Prelude.{◌≡◌, ◌≤◌, IfOk, IfErr};
 ghost use Rattle.refusals.specs.Refusals.{IsRefusedAt};
 ghost use Rattle.text_words.specs.Words.{words_of};
-ghost use Rattle.mac_keys.specs.KeyLines.{IsKeyLine, hex_secret_of, id_of, is_plain, is_plain_octet, secret_of};
+ghost use Rattle.mac_keys.specs.KeyLines.{IsKeyLine, hex_secret_of, is_plain, is_plain_octet, secret_of};
 
 use crate::key_types::{KeyType, type_in};
-use crate::keys::{Key, Secret};
+use crate::keys::{
+    Key, MAX_HEX_DIGITS, MAX_KEY_ID, MAX_PLAIN_SECRET, MAX_SECRET, MIN_HEX_DIGITS, MIN_KEY_ID,
+    Secret,
+};
 use hex::decode_to_slice;
-use text_words::Words;
+use text_words::{Words, read_decimal_within};
 
 /// The key of a line of a key file, if it has one; else how many words stand before the first one
 /// that is refused.
@@ -19,7 +22,7 @@ pub fn read_line(line: &[u8]) -> Result<Option<Key>, u32>
     let Some(word) = words.next() else {
         return Ok(None);
     };
-    let Some(id) = id_in(word) else {
+    let Some(id) = read_decimal_within(word, MIN_KEY_ID, MAX_KEY_ID) else {
         return Err(0);
     };
     let Some(word) = words.next() else {
@@ -50,26 +53,6 @@ pub fn read_line(line: &[u8]) -> Result<Option<Key>, u32>
     }
 }
 
-/// The id that a word spells: 1 to 65535, in decimal digits without a leading zero.
-fn id_in(word: &[u8]) -> Option<u32>
-    ensures { result ≡ id_of word.now }
-{
-    if word.is_empty() || word[0] == b'0' {
-        return None;
-    }
-    let mut id = 0u32;
-    for octet in word {
-        if !octet.is_ascii_digit() {
-            return None;
-        }
-        id = 10 * id + (*octet - b'0') as u32;
-        if id > 65535 {
-            return None;
-        }
-    }
-    Some(id)
-}
-
 /// The secret that a word spells.
 fn secret_in(word: &[u8]) -> Option<Secret>
     ensures { result ≡ secret_of word.now }
@@ -84,7 +67,7 @@ fn secret_in(word: &[u8]) -> Option<Secret>
 fn is_plain_secret(word: &[u8]) -> bool
     ensures { result ≡ is_plain word.now }
 {
-    if word.is_empty() || word.len() > 20 {
+    if word.is_empty() || word.len() > MAX_PLAIN_SECRET {
         return false;
     }
     for octet in word {
@@ -106,10 +89,10 @@ fn hex_secret_in(word: &[u8]) -> Option<Secret>
     ensures { result ≡ hex_secret_of word.now }
 {
     let len = word.len() / 2;
-    if word.len() < 22 || word.len() > 128 {
+    if word.len() < MIN_HEX_DIGITS || word.len() > MAX_HEX_DIGITS {
         return None;
     }
-    let mut octets = [0u8; 64];
+    let mut octets = [0u8; MAX_SECRET];
     match decode_to_slice(word, &mut octets[..len]) {
         Ok(()) => Some(Secret::of(&octets[..len])),
         Err(_) => None,

@@ -17,9 +17,12 @@ pub mod key_types;
 pub mod keys;
 pub mod tables;
 
-pub use checking::{Auth, check};
+pub use checking::{Auth, check, is_authentic};
 pub use digesting::digest;
 pub use digests::Digest;
 pub use key_files::{KeysFault, read_keys};
-pub use keys::{Algorithm, Key, MAX_SECRET, Secret};
+pub use keys::{
+    Algorithm, Key, MAX_HEX_DIGITS, MAX_KEY_ID, MAX_PLAIN_SECRET, MAX_SECRET, MIN_HEX_DIGITS,
+    MIN_KEY_ID, Secret,
+};
 pub use tables::{KeyTable, MAX_KEYS};

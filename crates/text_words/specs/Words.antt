@@ -1,6 +1,7 @@
 -- Words of a line, separated by spaces and tabs, up to a comment: our own rule.
-use Rattle.std.specs.Prelude.{ℕ, ◌==◌, nat_lt, Bool, not, ◌||◌, List, length, filter}
+use Rattle.std.specs.Prelude.{ℕ, ◌==◌, nat_lt, Bool, not, ◌||◌, List, length, filter, map}
 use Rattle.std.specs.List.{before_first, slice_split}
+use Rattle.text_words.specs.Lines.{lines_of}
 
 -- a space or a tab
 abbrev pub is_blank : ℕ → Bool
@@ -21,3 +22,7 @@ is_some_octets part = nat_lt 0 (length part)
 -- the words of a line: the parts that aren't empty between the blanks before its first number sign
 abbrev pub words_of : List ℕ → List (List ℕ)
 words_of line = filter is_some_octets (slice_split is_blank (before_first is_number_sign line))
+
+-- the lines of a text, each as its words
+abbrev pub lines_as_words : List ℕ → List (List (List ℕ))
+lines_as_words text = map words_of (lines_of text)

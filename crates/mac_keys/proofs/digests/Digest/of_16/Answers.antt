@@ -1,4 +1,4 @@
-use Rattle.std.proofs.Common.{arith, take_at, ap, ◌∙◌, length, ◌≡◌, [], ◌∷◌}
+use Rattle.std.proofs.Common.{arith, take_at, ◌∙◌, length, ◌≡◌, [], ◌∷◌}
 use Rattle.mac_keys.proofs.digests.Digest.of_16.Goals as goal
 
 pub returns : goal.returns

@@ -1,5 +1,3 @@
-use Rattle.std.proofs.Common.{rules, ◌≡◌, ◌≤◌, ◌<◌, length, ℕ, arith, sym, ap, ◌∙◌}
-use Rattle.mac_keys.specs.Tables.{IsKeyTable, key_of, place_of, with_key}
 use Rattle.mac_keys.proofs.TableLemmas.{IsKeyTable-with_key}
 use Rattle.mac_keys.proofs.tables.KeyTable.add.Goals as goal
 

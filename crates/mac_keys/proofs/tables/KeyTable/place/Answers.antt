@@ -1,7 +1,7 @@
-use Rattle.std.proofs.Common.{rules, ◌≡◌, ◌≤◌, ◌<◌, length, ℕ, arith, sym, ap, ◌∙◌, nat_lt}
+use Rattle.std.proofs.Common.{rules, sym, ap, ◌∙◌, nat_lt}
 use Rattle.std.proofs.lemmas.List.Sorted.{IsPartitionPoint-from_clause}
 use Rattle.mac_keys.specs.declared.keys.Key.{Key}
-use Rattle.mac_keys.specs.Tables.{IsKeyTable, key_of, place_of, with_key}
+use Rattle.mac_keys.specs.Tables.{IsKeyTable, place_of}
 use Rattle.mac_keys.proofs.TableLemmas.{lower_in_front, place_of-point}
 use Rattle.mac_keys.proofs.tables.KeyTable.place.Goals as goal
 
