@@ -6,49 +6,34 @@ use Rattle.net_addr.specs.Addresses.{bits_of}
 use Rattle.net_addr.specs.Prefixes.{without_host_bits}
 use Rattle.conf_file.specs.declared.lines.Line.{Line}
 use Rattle.conf_file.specs.declared.lines.Line.TheVariants.{Restrict}
-use Rattle.conf_file.specs.declared.restrict_options.RestrictOptions.{RestrictOptions}
-use Rattle.conf_file.specs.Options.{AreOptions, IsReadAs}
+use Rattle.text_words.specs.Words.{begins_with}
+use Rattle.conf_file.specs.Options.{IsReadAs}
 use Rattle.conf_file.specs.RestrictLines.{AreFlags, IsAddressTail, IsMaskTail, IsMaskWord, IsPrefixOf}
-use Rattle.conf_file.specs.RestrictOptions.{no_flags, restrict_follows, restrict_means}
-use Rattle.conf_file.proofs.LineLemmas.{address_alone, address_means, mask_leads, mask_word_leads, no_mask, some_address, some_mask}
-use Rattle.conf_file.proofs.OptionLineLemmas.{restrict_ends}
-use Rattle.conf_file.proofs.ReadingLemmas.{read_after, read_as, read_bad, read_end, read_found}
-use Rattle.conf_file.proofs.RefusedLemmas.{not_options, option_leads}
+use Rattle.conf_file.specs.RestrictOptions.{flag_rules, restricted_by}
+use Rattle.conf_file.proofs.LineLemmas.{address_means, flags_of_prefix, mask_leads, mask_word_leads, no_mask, some_address, some_mask}
+use Rattle.conf_file.proofs.OptionLineLemmas.{none_given}
+use Rattle.conf_file.proofs.ReadingLemmas.{read_after, read_as, read_bad, read_end}
 
 -- the prefix is that of the address alone
 abbrev pub IsAlone : Ip → Prefix → Type 0
 IsAlone ip prefix = IsPrefixOf (without_host_bits (bits_of ip) ip) (bits_of ip) prefix
 
--- an address and nothing else
-pub alone_read : (number : ℕ) (ip : Ip) (prefix : Prefix) (alone : RestrictOptions) (all : List (List ℕ)) → IsAlone ip prefix → alone ≡ no_flags prefix None → all ≡ []
-    → IsReadAs number (IsAddressTail ip) all (Ok (Restrict alone.restriction))
-alone_read number ip prefix alone all is same ended =
-    let P : List (List ℕ) → Type 0 = λ ws. IsReadAs number (IsAddressTail ip) ws (Ok (Restrict alone.restriction)) in
-    let Q : RestrictOptions → Type 0 = λ o. IsReadAs number (IsAddressTail ip) [] (Ok (Restrict o.restriction)) in
-    let here : IsReadAs number (IsAddressTail ip) [] (Ok (Restrict (no_flags prefix None).restriction)) =
-    read_found (IsAddressTail ip) number [] (Restrict (no_flags prefix None).restriction) (prefix, is, refl) (address_alone ip prefix is) in
-    subst P (sym ended) (subst Q (sym same) here)
-
--- an address and flags
-pub flag_read : (number : ℕ) (ip : Ip) (prefix : Prefix) (alone given : RestrictOptions) (all : List (List ℕ)) (word : List ℕ) (words : List (List ℕ)) (result : Result Line ℕ)
-    → IsAlone ip prefix → alone ≡ no_flags prefix None → all ≡ word ∷ words → bytes_eq word (codes "mask") ≡ false → restrict_follows alone word ≡ Some given
-    → IsReadAs (number + 1) (AreOptions restrict_follows restrict_means given) words result → IsReadAs number (IsAddressTail ip) all result
-flag_read number ip prefix alone given all word words result is same eq unlike leads read =
-    let P : RestrictOptions → Type 0 = λ o. restrict_follows o word ≡ Some given in
-    let flags : IsReadAs number (AreFlags prefix None) (word ∷ words) result =
-    read_after (AreFlags prefix None) (AreOptions restrict_follows restrict_means given) number (word ∷ words) word words result refl
-    (option_leads restrict_follows restrict_means (no_flags prefix None) given word (subst P same leads)) read in
-    read_as (IsAddressTail ip) (AreFlags prefix None) number all word words result eq (address_means ip word prefix unlike is) (some_address ip prefix is) flags
-
--- an address and a word that is no flag
-pub flag_bad : (number : ℕ) (ip : Ip) (prefix : Prefix) (alone : RestrictOptions) (all : List (List ℕ)) (word : List ℕ) (words : List (List ℕ))
-    → IsAlone ip prefix → alone ≡ no_flags prefix None → all ≡ word ∷ words → bytes_eq word (codes "mask") ≡ false → restrict_follows alone word ≡ None → number < 2 ^ 32
-    → IsReadAs number (IsAddressTail ip) all (Err number)
-flag_bad number ip prefix alone all word words is same eq unlike nowhere low =
-    let P : RestrictOptions → Type 0 = λ o. restrict_follows o word ≡ None in
-    let flags : IsReadAs number (AreFlags prefix None) (word ∷ words) (Err number) =
-    read_bad (AreFlags prefix None) number (word ∷ words) word words refl (not_options restrict_follows restrict_means (no_flags prefix None) word (subst P same nowhere)) (restrict_ends (no_flags prefix None)) low in
-    read_as (IsAddressTail ip) (AreFlags prefix None) number all word words (Err number) eq (address_means ip word prefix unlike is) (some_address ip prefix is) flags
+-- an address and what is no mask: flags for its prefix
+pub flags_read : (number : ℕ) (ip : Ip) (prefix : Prefix) (all : List (List ℕ)) (result : Result Line ℕ) → IsAlone ip prefix → begins_with all (codes "mask") ≡ false
+    → IsReadAs number (AreFlags prefix None) all result → IsReadAs number (IsAddressTail ip) all result
+flags_read number ip prefix [] (Ok line) is unlike read = record {
+  found = (prefix, is, read.found);
+  only = λ other tail. read.only other (flags_of_prefix ip (bits_of ip) prefix is [] other tail);
+  refused = tt;
+}
+flags_read number ip prefix [] (Err told) is unlike read =
+    let made = read.only (Restrict (restricted_by prefix None [])) (none_given flag_rules (λ given. Restrict (restricted_by prefix None given))) in
+    absurd (no_error told (Restrict (restricted_by prefix None [])) made)
+  where
+    no_error : (word : ℕ) (line : Line) → ◌≡◌ {A = Result Line ℕ} (Err word) (Ok line) → ⊥
+    no_error word line same = cc
+flags_read number ip prefix (word ∷ words) result is unlike read =
+    read_as (IsAddressTail ip) (AreFlags prefix None) number (word ∷ words) word words result refl (address_means ip word prefix unlike is) (some_address ip prefix is) read
 
 -- `mask` and nothing else
 pub mask_missing : (number : ℕ) (ip : Ip) (prefix : Prefix) (all : List (List ℕ)) (word : List ℕ) (words : List (List ℕ))

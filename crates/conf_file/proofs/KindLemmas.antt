@@ -9,58 +9,16 @@ use Rattle.conf_file.specs.declared.lines.Line.TheVariants as line
 use Rattle.conf_file.specs.declared.drafts.Draft.{Draft}
 use Rattle.conf_file.specs.declared.families.Family.{Family}
 use Rattle.conf_file.specs.declared.families.Family.TheVariants.{Both}
-use Rattle.conf_file.specs.declared.rate_options.RateState.{RateState}
-use Rattle.conf_file.specs.declared.rate_options.RateState.TheVariants as rate
-use Rattle.conf_file.specs.declared.list_options.ListState.{ListState}
-use Rattle.conf_file.specs.declared.list_options.ListState.TheVariants as limits
-use Rattle.conf_file.specs.declared.server_options.ServerState.{ServerState}
-use Rattle.conf_file.specs.declared.server_options.ServerState.TheVariants as server
 use Rattle.conf_file.specs.ConfLines.{IsConfLine, IsTail}
 use Rattle.conf_file.specs.Drafts.{is_closed, is_closed_kind, is_closed_to, kind_of_line}
 use Rattle.conf_file.specs.Kinds.{kind_of}
-use Rattle.conf_file.specs.ListOptions.{list_follows, list_means}
-use Rattle.conf_file.specs.Options.{AreOptions}
-use Rattle.conf_file.specs.RateOptions.{rate_follows, rate_means}
 use Rattle.conf_file.specs.RestrictLines.{AreFlags, IsAddressTail, IsDefaultOrPrefix, IsMaskOrFlags, IsMaskTail, IsOfFamily, IsRestrictTail, IsTargetTail, family_of}
-use Rattle.conf_file.specs.RestrictOptions.{no_flags, restrict_follows, restrict_means}
 use Rattle.conf_file.specs.OptionLines.{IsServerTail}
-use Rattle.conf_file.specs.ServerOptions.{no_server_options, server_follows, server_means}
 use Rattle.conf_file.specs.ShortLines.{IsOnly, SpellsFrequency, SpellsKeys, SpellsListen, SpellsLocal}
 use Rattle.conf_file.proofs.RefusedLemmas.{LeadsTo}
 
--- options end in a line of their kind
-options_kind : {S : Type 0} (follows : S → List ℕ → Option S) (means : S → Option Line) (of : Kind) → ((s : S) (l : Line) → means s ≡ Some l → kind_of_line l ≡ of)
-    → (words : List (List ℕ)) (state : S) (l : Line) → AreOptions follows means state words l → kind_of_line l ≡ of
-options_kind follows means of ends [] state l is = ends state l is
-options_kind follows means of ends (word ∷ words) state l (next, leads, are) = options_kind follows means of ends words next l are
-
-same_line : (one other : Line) → Some one ≡ Some other → one ≡ other
-same_line one other same = cc
-
-rate_kind : (s : RateState) (l : Line) → rate_means s ≡ Some l → kind_of_line l ≡ kind.Limit
-rate_kind rate.Start l is = cc
-rate_kind (rate.Between given) l is = sym (ap kind_of_line (same_line (line.Limit given) l is))
-rate_kind (rate.AtAverage given) l is = cc
-rate_kind (rate.AtBurst given) l is = cc
-rate_kind (rate.AtSpacing given) l is = cc
-
-list_kind : (s : ListState) (l : Line) → list_means s ≡ Some l → kind_of_line l ≡ kind.Mru
-list_kind limits.Start l is = cc
-list_kind (limits.Between given) l is = sym (ap kind_of_line (same_line (line.Mru given) l is))
-list_kind (limits.AtMinDepth given) l is = cc
-list_kind (limits.AtMaxDepth given) l is = cc
-list_kind (limits.AtMinAge given) l is = cc
-list_kind (limits.AtMaxAge given) l is = cc
-
-server_kind : (s : ServerState) (l : Line) → server_means s ≡ Some l → kind_of_line l ≡ kind.Server
-server_kind (server.Between given) l is = sym (ap kind_of_line (same_line (line.Server given.server) l is))
-server_kind (server.AtKey given) l is = cc
-server_kind (server.AtMinPoll given) l is = cc
-server_kind (server.AtMaxPoll given) l is = cc
-
 flags_kind : (first : Prefix) (second : Option Prefix) (words : List (List ℕ)) (l : Line) → AreFlags first second words l → kind_of_line l ≡ kind.Restrict
-flags_kind first second words l are =
-    options_kind restrict_follows restrict_means kind.Restrict (λ s m is. sym (ap kind_of_line (same_line (line.Restrict s.restriction) m is))) words (no_flags first second) l are
+flags_kind first second words l (given, list, is) = ap kind_of_line is
 
 mask_kind : (ip : Ip) (words : List (List ℕ)) (l : Line) → IsMaskTail ip words l → kind_of_line l ≡ kind.Restrict
 mask_kind ip [] l none = elim none [ ]
@@ -99,15 +57,15 @@ only_kind spells of each (word ∷ more ∷ words) l none = elim none [ ]
 
 server_tail_kind : (words : List (List ℕ)) (l : Line) → IsServerTail words l → kind_of_line l ≡ kind.Server
 server_tail_kind [] l none = elim none [ ]
-server_tail_kind (word ∷ words) l (addr, fits, stands, are) = options_kind server_follows server_means kind.Server server_kind words (server.Between (no_server_options addr)) l are
+server_tail_kind (word ∷ words) l (addr, fits, stands, (given, list, is)) = ap kind_of_line is
 
 -- the words after a first one mean a line of its kind
 line_kind : (of : Kind) (words : List (List ℕ)) (l : Line) → IsTail of words l → kind_of_line l ≡ of
 line_kind kind.Listen words l tail = only_kind SpellsListen kind.Listen (λ word m (addr, fits, spelled, is). ap kind_of_line is) words l tail
 line_kind kind.Server words l tail = server_tail_kind words l tail
 line_kind kind.Restrict words l tail = restrict_kind words l tail
-line_kind kind.Limit words l are = options_kind rate_follows rate_means kind.Limit rate_kind words rate.Start l are
-line_kind kind.Mru words l are = options_kind list_follows list_means kind.Mru list_kind words limits.Start l are
+line_kind kind.Limit words l (given, list, is) = ap kind_of_line is
+line_kind kind.Mru words l (given, list, is) = ap kind_of_line is
 line_kind kind.Keys words l tail = only_kind SpellsKeys kind.Keys (λ word m (all, is). ap kind_of_line is) words l tail
 line_kind kind.Local words l tail = only_kind SpellsLocal kind.Local (λ word m (stratum, some, is). ap kind_of_line is) words l tail
 line_kind kind.Frequency words l tail = only_kind SpellsFrequency kind.Frequency (λ word m (frequency, some, is). ap kind_of_line is) words l tail

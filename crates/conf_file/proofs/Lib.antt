@@ -6,8 +6,10 @@ pub mod KindLemmas
 pub mod LimitLemmas
 pub mod LineLemmas
 pub mod NumberLemmas
+pub mod OnlyLemmas
 pub mod OptionLemmas
 pub mod OptionLineLemmas
+pub mod OptionStepLemmas
 pub mod ReadingLemmas
 pub mod RefusedLemmas
 pub mod ShortLineLemmas

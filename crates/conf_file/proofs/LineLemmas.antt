@@ -12,15 +12,12 @@ use Rattle.conf_file.specs.declared.lines.Line.TheVariants.{Listen, Server, Rest
 use Rattle.conf_file.specs.declared.families.Family.{Family}
 use Rattle.conf_file.specs.declared.families.Family.TheVariants.{Both, OnlyV4, OnlyV6}
 use Rattle.conf_file.specs.declared.option_lines.TheConstants.{NTP_PORT}
-use Rattle.conf_file.specs.declared.server_options.ServerOptions.{ServerOptions}
-use Rattle.conf_file.specs.declared.server_options.ServerState.TheVariants.{Between}
-use Rattle.conf_file.specs.Options.{AreOptions}
-use Rattle.conf_file.specs.OptionLines.{IsServerTail}
+use Rattle.conf_file.specs.OptionLines.{IsServerAt, IsServerTail, server_rules, server_with}
 use Rattle.conf_file.specs.RestrictLines.{AreDefaults, AreFlags, AreFlagsOf, IsAddressTail, IsDefaultOrPrefix, IsMaskOrFlags, IsMaskTail, IsMaskWord, IsOfFamily, IsPrefixOf, IsPrefixTail, IsRestrictTail, IsTargetTail, family_of, is_allowed, zeros_v4, zeros_v6}
-use Rattle.conf_file.specs.RestrictOptions.{no_flags}
-use Rattle.conf_file.specs.ServerOptions.{no_server_options, server_follows, server_means}
+use Rattle.conf_file.specs.RestrictOptions.{flag_rules, restricted_by}
 use Rattle.conf_file.specs.ShortLines.{IsOnly, SpellsListen}
 use Rattle.conf_file.proofs.AddressLemmas.{full_mask, no_addr, no_addr-fits, no_addr-spelled, no_addr_text, prefix-one, some_addr, some_addr-stands, whole_v4, whole_v4-is, whole_v6, whole_v6-is, zeros_fit, zeros_text}
+use Rattle.conf_file.proofs.OptionLineLemmas.{none_given}
 use Rattle.conf_file.proofs.RefusedLemmas.{LeadsTo, MeansAs}
 
 same_some : {X : Type 0} (x y : X) → Some x ≡ Some y → x ≡ y
@@ -39,24 +36,26 @@ no_listen word only line (addr, fits, spelled, is) = no_some addr (only addr fit
 pub one_listen : (word : List ℕ) (addr : Addr) → ((a : Addr) → IsAddr a → Spells word a → Some addr ≡ Some a) → (other : Line) → SpellsListen word other → other ≡ Listen addr
 one_listen word addr only other (also, fits, spelled, is) = is ∙ ap Listen (sym (same_some addr also (only also fits spelled)))
 
+-- no flags may stand for prefixes
+no_flags : (first : Prefix) (second : Option Prefix) → AreFlags first second [] (Restrict (restricted_by first second []))
+no_flags first second = none_given flag_rules (λ given. Restrict (restricted_by first second given))
+
 -- `server` goes on, and its address leads to options
 pub some_server : GoesOn IsServerTail []
-some_server = (zeros_text ∷ [], Server (no_server_options (some_addr NTP_PORT)).server, (some_addr NTP_PORT, record { ip = zeros_fit; port = lit< tt }, some_addr-stands NTP_PORT, refl))
+some_server = (zeros_text ∷ [], Server (server_with (some_addr NTP_PORT) []), (some_addr NTP_PORT, record { ip = zeros_fit; port = lit< tt }, some_addr-stands NTP_PORT,
+    none_given server_rules (λ given. Server (server_with (some_addr NTP_PORT) given))))
 
 pub no_server : (word : List ℕ) → ((a : Addr) → IsAddr a → StandsFor word NTP_PORT a → None ≡ Some a) → (more : List (List ℕ)) (line : Line) → ¬ IsServerTail (word ∷ more) line
 no_server word only more line (addr, fits, stands, are) = no_some addr (only addr fits stands)
 
-pub server_leads : (word : List ℕ) (addr : Addr) (given : ServerOptions) → IsAddr addr → StandsFor word NTP_PORT addr
-    → ((a : Addr) → IsAddr a → StandsFor word NTP_PORT a → Some addr ≡ Some a) → given ≡ no_server_options addr
-    → LeadsTo IsServerTail word (AreOptions server_follows server_means (Between given))
-server_leads word addr given fits stands only is = record {
+pub server_leads : (word : List ℕ) (addr : Addr) → IsAddr addr → StandsFor word NTP_PORT addr → ((a : Addr) → IsAddr a → StandsFor word NTP_PORT a → Some addr ≡ Some a)
+    → LeadsTo IsServerTail word (IsServerAt addr)
+server_leads word addr fits stands only = record {
   onward = λ words line (also, also_fits, also_stands, are). (
       let same : also ≡ addr = sym (same_some addr also (only also also_fits also_stands)) in
-      let P : ServerOptions → Type 0 = λ o. AreOptions server_follows server_means (Between o) words line in
-      subst P (ap no_server_options same ∙ sym is) are);
-  back = λ words line are. (
-      let P : ServerOptions → Type 0 = λ o. AreOptions server_follows server_means (Between o) words line in
-      (addr, fits, stands, subst P is are));
+      let P : Addr → Type 0 = λ a. IsServerAt a words line in
+      subst P same are);
+  back = λ words line are. (addr, fits, stands, are);
 }
 
 -- flags for the first bits of an address are flags for its prefix
@@ -84,7 +83,7 @@ no_mask ip word only more line (length, mask, are) = no_some length (only length
 pub some_mask : (ip : Ip) (prefix : Prefix) → IsPrefixOf (without_host_bits (bits_of ip) ip) (bits_of ip) prefix → GoesOn (IsMaskTail ip) []
 some_mask ip prefix is =
     let (word, mask) = full_mask ip in
-    (word ∷ [], Restrict (no_flags prefix None).restriction, (bits_of ip, mask, (prefix, is, refl)))
+    (word ∷ [], Restrict (restricted_by prefix None []), (bits_of ip, mask, (prefix, is, no_flags prefix None)))
 
 -- `mask` leads to a mask, and another word is a flag's
 pub mask_word_leads : (ip : Ip) (word : List ℕ) → bytes_eq word (codes "mask") ≡ true → LeadsTo (IsAddressTail ip) word (IsMaskTail ip)
@@ -106,14 +105,7 @@ address_means ip word prefix unlike is = record {
 }
 
 pub some_address : (ip : Ip) (prefix : Prefix) → IsPrefixOf (without_host_bits (bits_of ip) ip) (bits_of ip) prefix → GoesOn (IsAddressTail ip) []
-some_address ip prefix is = ([], Restrict (no_flags prefix None).restriction, (prefix, is, refl))
-
--- an address alone means its restriction
-pub address_alone : (ip : Ip) (prefix : Prefix) → IsPrefixOf (without_host_bits (bits_of ip) ip) (bits_of ip) prefix → (line : Line) → IsAddressTail ip [] line
-    → line ≡ Restrict (no_flags prefix None).restriction
-address_alone ip prefix is line tail =
-    let are : AreFlags prefix None [] line = flags_of_prefix ip (bits_of ip) prefix is [] line tail in
-    sym (same_some _ line are)
+some_address ip prefix is = ([], Restrict (restricted_by prefix None []), (prefix, is, no_flags prefix None))
 
 -- the prefixes that `default` stands for are known
 defaults-one : (family : Family) (first : Prefix) (second : Option Prefix) (other_first : Prefix) (other_second : Option Prefix) → AreDefaults family first second → AreDefaults family other_first other_second
@@ -205,12 +197,12 @@ other_prefix family word prefix unlike no_ip only not_allowed more line tail =
 
 -- a prefix may stand in each family, and after `restrict`
 pub some_target : (family : Family) → GoesOn (IsTargetTail family) []
-some_target Both = (codes "default" ∷ [], Restrict (no_flags whole_v4 (Some whole_v6)).restriction, (whole_v4, Some whole_v6, (whole_v4-is, (whole_v6, whole_v6-is, refl)), refl))
-some_target OnlyV4 = (codes "default" ∷ [], Restrict (no_flags whole_v4 None).restriction, (whole_v4, None, (whole_v4-is, refl), refl))
-some_target OnlyV6 = (codes "default" ∷ [], Restrict (no_flags whole_v6 None).restriction, (whole_v6, None, (whole_v6-is, refl), refl))
+some_target Both = (codes "default" ∷ [], Restrict (restricted_by whole_v4 (Some whole_v6) []), (whole_v4, Some whole_v6, (whole_v4-is, (whole_v6, whole_v6-is, refl)), no_flags whole_v4 (Some whole_v6)))
+some_target OnlyV4 = (codes "default" ∷ [], Restrict (restricted_by whole_v4 None []), (whole_v4, None, (whole_v4-is, refl), no_flags whole_v4 None))
+some_target OnlyV6 = (codes "default" ∷ [], Restrict (restricted_by whole_v6 None []), (whole_v6, None, (whole_v6-is, refl), no_flags whole_v6 None))
 
 pub some_restrict : GoesOn IsRestrictTail []
-some_restrict = (codes "default" ∷ [], Restrict (no_flags whole_v4 (Some whole_v6)).restriction, (whole_v4, Some whole_v6, (whole_v4-is, (whole_v6, whole_v6-is, refl)), refl))
+some_restrict = (codes "default" ∷ [], Restrict (restricted_by whole_v4 (Some whole_v6) []), (whole_v4, Some whole_v6, (whole_v4-is, (whole_v6, whole_v6-is, refl)), no_flags whole_v4 (Some whole_v6)))
 
 -- a family leads to a prefix of it, and another word is the prefix
 pub family_leads : (word : List ℕ) (family : Family) → family_of word ≡ Some family → LeadsTo IsRestrictTail word (IsTargetTail family)

@@ -1,26 +1,25 @@
 -- Worked words and lines, computed.
-use Rattle.std.proofs.Common.{◌≡◌, ℕ, List, [], ◌∷◌, ◌*◌, ◌^◌, Some, None, refl, negsuc, codes, lit≤, sym, subst, true}
+use Rattle.std.proofs.Common.{◌≡◌, ℕ, List, [], ◌∷◌, ◌*◌, ◌^◌, Some, None, refl, negsuc, codes, decimal, lit≤, sym, subst}
 use Rattle.refusals.specs.Refusals.{IsRefusedAt}
 use Rattle.conf_file.specs.declared.kinds.Kind.{Kind}
 use Rattle.conf_file.specs.declared.kinds.Kind.TheVariants as kind
 use Rattle.conf_file.specs.declared.lines.Line.{Line}
 use Rattle.conf_file.specs.declared.lines.Line.TheVariants as line
-use Rattle.conf_file.specs.declared.rate_options.RateState.TheVariants as rate
-use Rattle.conf_file.specs.declared.restrict_options.RestrictOptions.{RestrictOptions}
 use Rattle.conf_file.specs.ConfLines.{IsConfLine, IsTail}
 use Rattle.conf_file.specs.Drafts.{rate_of}
 use Rattle.conf_file.specs.Kinds.{kind_of}
 use Rattle.conf_file.specs.Numbers.{number_of}
-use Rattle.conf_file.specs.RateOptions.{no_rate_options, rate_follows}
-use Rattle.conf_file.specs.RestrictOptions.{restrict_follows}
+use Rattle.net_addr.specs.declared.addr.Addr.{Addr}
+use Rattle.conf_file.specs.OptionLines.{limit_rules, rate_with, server_with}
+use Rattle.conf_file.specs.OptionRules.{Given}
+use Rattle.conf_file.specs.Options.{AreOnce, IsOptionList, rule_of}
+use Rattle.conf_file.specs.RestrictOptions.{flag_rules, flags_of}
+use Rattle.conf_file.specs.declared.lists.TheConstants.{MAX_LISTEN}
+use Rattle.conf_file.specs.declared.option_lines.TheConstants.{NTP_PORT}
+use Rattle.conf_file.specs.declared.options.Value.TheVariants.{Number}
+use Rattle.conf_file.specs.declared.rate_options.TheConstants.{MAX_AVERAGE, MAX_BURST, MAX_SPACING}
+use Rattle.conf_file.specs.declared.server_options.TheConstants.{PLAIN_POLL}
 use Rattle.conf_file.specs.ShortLines.{IsOnly, SpellsLocal, signed_of}
-use Rattle.conf_file.specs.declared.list_options.ListOptions.{ListOptions}
-use Rattle.conf_file.specs.declared.list_options.ListState.TheVariants as limits
-use Rattle.conf_file.specs.declared.rate_options.RateOptions.{RateOptions}
-use Rattle.conf_file.specs.declared.server_options.ServerOptions.{ServerOptions}
-use Rattle.conf_file.specs.declared.server_options.ServerState.TheVariants as server
-use Rattle.conf_file.specs.ListOptions.{list_follows}
-use Rattle.conf_file.specs.ServerOptions.{server_follows, with_key, with_poll}
 
 -- a number has no zero that says nothing, and stands within its bounds
 zero : number_of 0 86400 (codes "0") ≡ Some 0
@@ -49,15 +48,29 @@ ignored = refl
 upper_case : kind_of (codes "Listen") ≡ None
 upper_case = refl
 
--- `mask` is no flag, whatever is given
-no_flag : (given : RestrictOptions) → restrict_follows given (codes "mask") ≡ None
-no_flag given = refl
+-- `mask` is no flag
+no_flag : rule_of flag_rules (codes "mask") ≡ None
+no_flag = refl
+
+-- flags join bit by bit, and `nopeer` adds none
+joined_flags : flags_of (record { name = codes "kod"; number = 128 } ∷ record { name = codes "nopeer"; number = 0 } ∷ record { name = codes "limited"; number = 64 } ∷ []) ≡ 192
+joined_flags = refl
 
 -- a line of one option, and what it means with the defaults of the others
-limit_line : IsConfLine (codes "limit" ∷ codes "kod" ∷ codes "5" ∷ []) (line.Limit (record no_rate_options { spacing = Some 5 }))
-limit_line = (kind.Limit, refl, (rate.AtSpacing no_rate_options, refl, (rate.Between (record no_rate_options { spacing = Some 5 }), refl, refl)))
+abbrev kod_5 : List Given
+kod_5 = record { name = codes "kod"; number = 5 } ∷ []
 
-limit_rate : rate_of (record no_rate_options { spacing = Some 5 }) ≡ record { average = 60; burst = 20; spacing = 5 * 2 ^ 32 }
+kod_5-spelled : IsOptionList 1 limit_rules (codes "kod" ∷ decimal 5 ∷ []) kod_5
+kod_5-spelled = record {
+  options = (record { name = codes "kod"; value = Number 0 86400 }, decimal 5 ∷ [], [], refl, refl, (decimal 5, refl, (refl, lit≤ tt, lit≤ tt)), refl);
+  once = (tt, tt);
+  enough = lit≤ tt;
+}
+
+limit_line : IsConfLine (codes "limit" ∷ codes "kod" ∷ decimal 5 ∷ []) (line.Limit (record { average = None; burst = None; spacing = Some 5 }))
+limit_line = (kind.Limit, refl, (kod_5, kod_5-spelled, refl))
+
+limit_rate : rate_of (rate_with kod_5) ≡ record { average = 60; burst = 20; spacing = 5 * 2 ^ 32 }
 limit_rate = refl
 
 not_high : (more : List (List ℕ)) (l : Line) → ¬ IsOnly SpellsLocal (codes "16" ∷ more) l
@@ -78,22 +91,30 @@ high_stratum = record {
   stops = λ (more, l, is). high_stops more l is;
 }
 
--- an option that is given stands no more, whatever else is given
-key_once : (given : ServerOptions) (n : ℕ) → server_follows (server.Between (with_key given n)) (codes "key") ≡ None
-key_once given n = refl
-
-poll_once : (given : ServerOptions) (n : ℕ) → server_follows (server.Between (with_poll given n)) (codes "minpoll") ≡ None
-poll_once given n = refl
-
-average_once : (given : RateOptions) (n : ℕ) → rate_follows (rate.Between (record given { average = Some n })) (codes "average") ≡ None
-average_once given n = refl
-
-minage_once : (given : ListOptions) (n : ℕ) → list_follows (limits.Between (record given { minage = Some n })) (codes "minage") ≡ None
-minage_once given n = refl
-
-nopeer_once : (given : RestrictOptions) → restrict_follows (record given { has_nopeer = true }) (codes "nopeer") ≡ None
-nopeer_once given = refl
+-- an option stands once, whatever stands between
+key_once : (first second : ℕ) (between : Given) → ¬ AreOnce (record { name = codes "key"; number = first } ∷ between ∷ record { name = codes "key"; number = second } ∷ [])
+key_once first second between once = once.0.1.0 refl
 
 -- and their order says nothing
-any_order : (given : ServerOptions) (key poll : ℕ) → with_poll (with_key given key) poll ≡ with_key (with_poll given poll) key
-any_order given key poll = refl
+any_order : (addr : Addr) (key poll : ℕ)
+    → server_with addr (record { name = codes "key"; number = key } ∷ record { name = codes "minpoll"; number = poll } ∷ [])
+    ≡ server_with addr (record { name = codes "minpoll"; number = poll } ∷ record { name = codes "key"; number = key } ∷ [])
+any_order addr key poll = refl
+
+MAX_LISTEN-is : MAX_LISTEN ≡ 8
+MAX_LISTEN-is = refl
+
+NTP_PORT-is : NTP_PORT ≡ 123
+NTP_PORT-is = refl
+
+MAX_AVERAGE-is : MAX_AVERAGE ≡ 60000
+MAX_AVERAGE-is = refl
+
+MAX_BURST-is : MAX_BURST ≡ 1000
+MAX_BURST-is = refl
+
+MAX_SPACING-is : MAX_SPACING ≡ 86400
+MAX_SPACING-is = refl
+
+PLAIN_POLL-is : PLAIN_POLL ≡ 6
+PLAIN_POLL-is = refl

@@ -12,6 +12,7 @@ use Rattle.access_rules.specs.declared.rules.RuleFault.TheVariants as rule
 use Rattle.access_rules.specs.declared.rules.TheConstants.{MAX_RULES}
 use Rattle.recency.specs.Limits.{AreLimits}
 use Rattle.recency.specs.declared.limits.Limits.{Limits}
+use Rattle.recency.specs.declared.limits.TheConstants.{PLAIN_MAXAGE, PLAIN_MAXDEPTH, PLAIN_MINAGE, PLAIN_MINDEPTH}
 use Rattle.conf_file.specs.Kinds.{kind_of}
 use Rattle.conf_file.specs.RestrictLines.{zeros_v4}
 use Rattle.conf_file.specs.declared.conf.Conf.{Conf}
@@ -23,7 +24,8 @@ use Rattle.conf_file.specs.declared.kinds.Kind.TheVariants as kind
 use Rattle.conf_file.specs.declared.lines.Line.{Line}
 use Rattle.conf_file.specs.declared.lines.Line.TheVariants as line
 use Rattle.conf_file.specs.declared.list_options.ListOptions.{ListOptions}
-use Rattle.conf_file.specs.declared.lists.TheConstants.{MAX_LISTEN, MAX_SERVERS}
+use Rattle.access_rules.specs.declared.servers.TheConstants.{MAX_SERVERS}
+use Rattle.conf_file.specs.declared.lists.TheConstants.{MAX_LISTEN}
 use Rattle.conf_file.specs.declared.option_lines.TheConstants.{NTP_PORT}
 use Rattle.conf_file.specs.declared.rate_options.RateOptions.{RateOptions}
 use Rattle.conf_file.specs.declared.restrict_options.Restriction.{Restriction}
@@ -84,15 +86,15 @@ rate_of given = record {
 -- the limits of the client list that these options ask for: 600 to 1,024 rows and 64 to 3,600 seconds, where nothing else
 -- is said
 pub record IsLimitsOf (given : ListOptions) (limits : Limits) : Type 0 where
-  pub mindepth : limits.mindepth ≡ unwrap_or given.mindepth 600
-  pub maxdepth : limits.maxdepth ≡ unwrap_or given.maxdepth 1024
-  pub minage : limits.minage ≡ unwrap_or given.minage 64 * 2 ^ 32
-  pub maxage : limits.maxage ≡ unwrap_or given.maxage 3600 * 2 ^ 32
+  pub mindepth : limits.mindepth ≡ unwrap_or given.mindepth PLAIN_MINDEPTH
+  pub maxdepth : limits.maxdepth ≡ unwrap_or given.maxdepth PLAIN_MAXDEPTH
+  pub minage : limits.minage ≡ unwrap_or given.minage PLAIN_MINAGE * 2 ^ 32
+  pub maxage : limits.maxage ≡ unwrap_or given.maxage PLAIN_MAXAGE * 2 ^ 32
 
 -- they fit each other
 abbrev pub DoFit : ListOptions → Type 0
 DoFit given =
-    AreLimits (unwrap_or given.mindepth 600) (unwrap_or given.maxdepth 1024) (unwrap_or given.minage 64 * 2 ^ 32) (unwrap_or given.maxage 3600 * 2 ^ 32)
+    AreLimits (unwrap_or given.mindepth PLAIN_MINDEPTH) (unwrap_or given.maxdepth PLAIN_MAXDEPTH) (unwrap_or given.minage PLAIN_MINAGE * 2 ^ 32) (unwrap_or given.maxage PLAIN_MAXAGE * 2 ^ 32)
 
 -- the rules with these flags of a prefix, if they have it or have room for one more
 abbrev pub rules_after : Prefix → ℕ → List Rule → Option (List Rule)

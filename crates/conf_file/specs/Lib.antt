@@ -2,13 +2,11 @@ pub mod ConfLines
 pub mod ConfTexts
 pub mod Drafts
 pub mod Kinds
-pub mod ListOptions
 pub mod Numbers
 pub mod OptionLines
+pub mod OptionRules
 pub mod Options
-pub mod RateOptions
 pub mod RestrictLines
 pub mod RestrictOptions
-pub mod ServerOptions
 pub mod Servers
 pub mod ShortLines

@@ -6,9 +6,10 @@ use Rattle.net_addr.specs.Spelling.{SpellsIp, SpellsPrefix}
 use Rattle.net_addr.specs.declared.addr.Ip.{Ip}
 use Rattle.net_addr.specs.declared.addr.Ip.TheVariants.{V4, V6}
 use Rattle.net_addr.specs.declared.prefix.Prefix.{Prefix}
-use Rattle.conf_file.specs.Options.{AreOptions}
-use Rattle.conf_file.specs.RestrictOptions.{no_flags, restrict_follows, restrict_means}
+use Rattle.conf_file.specs.OptionLines.{IsOptionLine}
+use Rattle.conf_file.specs.RestrictOptions.{flag_rules, restricted_by}
 use Rattle.conf_file.specs.declared.lines.Line.{Line}
+use Rattle.conf_file.specs.declared.lines.Line.TheVariants.{Restrict}
 use Rattle.conf_file.specs.declared.families.Family.{Family}
 use Rattle.conf_file.specs.declared.families.Family.TheVariants.{Both, OnlyV4, OnlyV6}
 
@@ -47,7 +48,7 @@ AreDefaults OnlyV6 first second = IsPrefixOf zeros_v6 0 first × (second ≡ Non
 
 -- flags for these prefixes, or none
 abbrev pub AreFlags : Prefix → Option Prefix → List (List ℕ) → Line → Type 0
-AreFlags first second words line = AreOptions restrict_follows restrict_means (no_flags first second) words line
+AreFlags first second words line = IsOptionLine 0 flag_rules (λ given. Restrict (restricted_by first second given)) words line
 
 -- flags for the first bits of an address
 abbrev pub AreFlagsOf : Ip → ℕ → List (List ℕ) → Line → Type 0

@@ -1,48 +1,23 @@
 -- Flags of a `restrict` line: our own rule, after the access control of NTPsec.
-use Rattle.std.specs.Prelude.{ℕ, if◌then◌else◌, true, false, bit_or, List, codes, bytes_eq, Option, Some, None}
-use Rattle.std.specs.Option.{option_and_then}
+use Rattle.std.specs.Prelude.{ℕ, List, [], ◌∷◌, bit_or, codes, fold, map, Option}
 use Rattle.net_addr.specs.declared.prefix.Prefix.{Prefix}
-use Rattle.access_rules.specs.Flags.{has_flag}
 use Rattle.access_rules.specs.declared.flags.TheConstants.{IGNORE, NOSERVE, NOTRUST, VERSION, NOQUERY, NOMRULIST, LIMITED, KOD, NOMODIFY}
-use Rattle.conf_file.specs.declared.lines.Line.{Line}
-use Rattle.conf_file.specs.declared.lines.Line.TheVariants.{Restrict}
-use Rattle.conf_file.specs.declared.restrict_options.RestrictOptions.{RestrictOptions}
+use Rattle.conf_file.specs.OptionRules.{Given, OptionWords}
+use Rattle.conf_file.specs.declared.options.Value.TheVariants.{Alone}
+use Rattle.conf_file.specs.declared.restrict_options.Restriction.{Restriction}
 
--- the flag that a word names
-abbrev pub flag_of : List ℕ → Option ℕ
-flag_of word =
-    if bytes_eq word (codes "ignore") then Some IGNORE
-    else (if bytes_eq word (codes "noserve") then Some NOSERVE
-    else (if bytes_eq word (codes "notrust") then Some NOTRUST
-    else (if bytes_eq word (codes "version") then Some VERSION
-    else (if bytes_eq word (codes "noquery") then Some NOQUERY
-    else (if bytes_eq word (codes "nomrulist") then Some NOMRULIST
-    else (if bytes_eq word (codes "limited") then Some LIMITED
-    else (if bytes_eq word (codes "kod") then Some KOD
-    else (if bytes_eq word (codes "nomodify") then Some NOMODIFY
-    else None))))))))
+-- the flags by their words; `nopeer` and `notrap` have no effect
+abbrev pub flag_rules : List OptionWords
+flag_rules =
+    record { name = codes "ignore"; value = Alone IGNORE } ∷ record { name = codes "noserve"; value = Alone NOSERVE } ∷ record { name = codes "notrust"; value = Alone NOTRUST }
+    ∷ record { name = codes "version"; value = Alone VERSION } ∷ record { name = codes "noquery"; value = Alone NOQUERY } ∷ record { name = codes "nomrulist"; value = Alone NOMRULIST }
+    ∷ record { name = codes "limited"; value = Alone LIMITED } ∷ record { name = codes "kod"; value = Alone KOD } ∷ record { name = codes "nomodify"; value = Alone NOMODIFY }
+    ∷ record { name = codes "nopeer"; value = Alone 0 } ∷ record { name = codes "notrap"; value = Alone 0 } ∷ []
 
--- no flag is given for these prefixes
-abbrev pub no_flags : Prefix → Option Prefix → RestrictOptions
-no_flags first second = record {
-  restriction = record { first = first; second = second; flags = 0 };
-  has_nopeer = false;
-  has_notrap = false;
-}
+-- the flags that are given, as one number
+abbrev pub flags_of : List Given → ℕ
+flags_of given = fold bit_or 0 (map (λ (option : Given). option.number) given)
 
--- with one flag more, if it is not given yet
-abbrev pub with_flag : RestrictOptions → ℕ → Option RestrictOptions
-with_flag given flag =
-    if has_flag given.restriction.flags flag then None
-    else Some (record given { restriction = record given.restriction { flags = bit_or given.restriction.flags flag } })
-
--- what may follow: a flag that is not given yet; two words have no effect, and stand once as well
-abbrev pub restrict_follows : RestrictOptions → List ℕ → Option RestrictOptions
-restrict_follows given word =
-    if bytes_eq word (codes "nopeer") then (if given.has_nopeer then None else Some (record given { has_nopeer = true }))
-    else (if bytes_eq word (codes "notrap") then (if given.has_notrap then None else Some (record given { has_notrap = true }))
-    else option_and_then (with_flag given) (flag_of word))
-
--- a line may end after each flag, or without any
-abbrev pub restrict_means : RestrictOptions → Option Line
-restrict_means given = Some (Restrict given.restriction)
+-- the restriction of these prefixes by the flags that are given
+abbrev pub restricted_by : Prefix → Option Prefix → List Given → Restriction
+restricted_by first second given = record { first = first; second = second; flags = flags_of given }

@@ -6,13 +6,13 @@ ghost use Rattle.access_rules.specs.declared.rules.RuleFault.TheVariants.{Full};
 use crate::kinds::Kind;
 use crate::lines::Line;
 use crate::list_options::ListOptions;
-use crate::lists::{Addrs, MAX_LISTEN, MAX_SERVERS, ServerLines};
+use crate::lists::{Addrs, MAX_LISTEN, ServerLines};
 use crate::rate_options::RateOptions;
 use crate::restrict_options::Restriction;
-use access_rules::{Rate, RuleFault, Rules};
+use access_rules::{MAX_SERVERS, Rate, RuleFault, Rules};
 use edge_traits::Name;
 use net_addr::Prefix;
-use recency::Limits;
+use recency::{Limits, PLAIN_MAXAGE, PLAIN_MAXDEPTH, PLAIN_MINAGE, PLAIN_MINDEPTH};
 use std::alloc::{AllocError, Global};
 
 /// What the lines read so far make of a configuration.
@@ -176,9 +176,9 @@ pub fn limits_with(given: &ListOptions) -> Option<Limits>
     ensures fit { IsSome result ↔ DoFit given.now }
 {
     Limits::of(
-        given.mindepth.unwrap_or(600),
-        given.maxdepth.unwrap_or(1024),
-        u64::from(given.minage.unwrap_or(64)) << 32,
-        u64::from(given.maxage.unwrap_or(3600)) << 32,
+        given.mindepth.unwrap_or(PLAIN_MINDEPTH),
+        given.maxdepth.unwrap_or(PLAIN_MAXDEPTH),
+        u64::from(given.minage.unwrap_or(PLAIN_MINAGE)) << 32,
+        u64::from(given.maxage.unwrap_or(PLAIN_MAXAGE)) << 32,
     )
 }

@@ -1,6 +1,7 @@
 //! The configuration file of the server: its text to a value.
 //!
-//! Layer 4. Stands on: `recency`, `access_rules`, `edge_traits`, `net_addr`, `refusals`, `text_words`.
+//! Layer 4. Stands on: `recency`, `access_rules`, `mac_keys`, `edge_traits`, `net_addr`, `refusals`,
+//! `text_words`.
 //! Promises: a text is the configuration that it means, or is refused at exactly its first refused
 //! word.
 #![tactic(auto)]
@@ -31,5 +32,5 @@ mod words;
 
 pub use conf::Conf;
 pub use confs::{ConfFault, read_conf};
-pub use lists::{Addrs, MAX_LISTEN, MAX_SERVERS, ServerLines};
+pub use lists::{Addrs, MAX_LISTEN, ServerLines};
 pub use servers::Server;

@@ -1,17 +1,15 @@
 ghost use Rattle.std.specs.Prelude.{◌≡◌, ◌≤◌, ◌<◌, ◌∷◌, ◌++◌, [], Some, length, slice_get, OnOk, OnErr};
-ghost use Rattle.conf_file.specs.declared.lists.TheConstants.{MAX_LISTEN, MAX_SERVERS};
+ghost use Rattle.access_rules.specs.declared.servers.TheConstants.{MAX_SERVERS};
+ghost use Rattle.conf_file.specs.declared.lists.TheConstants.{MAX_LISTEN};
 
 use crate::servers::Server;
-use access_rules::ServerLine;
+use access_rules::{MAX_SERVERS, ServerLine};
 use net_addr::Addr;
 use std::alloc::AllocError;
 use std::marker::Model;
 
 /// The most addresses at which a server listens.
 pub const MAX_LISTEN: usize = 8;
-
-/// The most upstream servers.
-pub const MAX_SERVERS: usize = 32;
 
 /// At most 8 addresses, in the order of their lines.
 #[derive(Drop)]

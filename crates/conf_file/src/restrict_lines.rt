@@ -8,8 +8,8 @@ ghost use Rattle.conf_file.specs.RestrictLines.{AreFlags, IsAddressTail, IsMaskW
 
 use crate::families::{Family, defaults, family_in, is_of};
 use crate::lines::Line;
-use crate::options::{Options, read_options};
-use crate::restrict_options::RestrictOptions;
+use crate::options::read_options;
+use crate::restrict_options::{Restriction, flag_table, flags_in};
 use crate::words::is_word;
 use net_addr::{Ip, Prefix, mask_length, prefix_of, read_ip, read_prefix};
 use text_words::Words;
@@ -70,16 +70,13 @@ fn address_line(ip: &Ip, words: &mut Words<'_>, number: u32) -> Result<Line, u32
     requires { number ≤ 4 }
     ensures { IsReadAs number (IsAddressTail ip.now) words.old result }
 {
-    let alone = RestrictOptions::of(whole_of(ip), None);
-    let Some(word) = words.next() else {
-        return Ok(Line::Restrict(alone.restriction));
-    };
-    if !is_word(word, b"mask") {
-        return match alone.next(word) {
-            Some(given) => read_options(given, words, number + 1),
-            None => Err(number),
-        };
+    let whole = whole_of(ip);
+    if !words.is_next(b"mask") {
+        return flags_line(whole, None, words, number);
     }
+    let Some(_) = words.next() else {
+        return Err(number);
+    };
     let Some(mask) = words.next() else {
         return Err(number + 1);
     };
@@ -96,9 +93,17 @@ fn flags_line(
     words: &mut Words<'_>,
     number: u32,
 ) -> Result<Line, u32>
+    requires { number ≤ 6 }
     ensures { IsReadAs number (AreFlags first second) words.old result }
 {
-    read_options(RestrictOptions::of(first, second), words, number)
+    match read_options(&flag_table(), 0, words, number) {
+        Ok(given) => Ok(Line::Restrict(Restriction {
+            first,
+            second,
+            flags: flags_in(&given),
+        })),
+        Err(number) => Err(number),
+    }
 }
 
 /// The prefix of an address alone.

@@ -1,11 +1,11 @@
 ghost use Rattle.std.specs.Prelude.{◌≡◌};
-ghost use Rattle.conf_file.specs.RestrictOptions.{flag_of, no_flags, with_flag};
+ghost use Rattle.conf_file.specs.Options.{IsGivenBy};
+ghost use Rattle.conf_file.specs.declared.options.Value.TheVariants.{Alone};
+ghost use Rattle.conf_file.specs.RestrictOptions.{flag_rules, flags_of};
 
-use crate::lines::Line;
-use crate::options::Options;
-use crate::words::is_word;
+use crate::options::{OptionRule, Options};
 use access_rules::{
-    IGNORE, KOD, LIMITED, NOMODIFY, NOMRULIST, NOQUERY, NOSERVE, NOTRUST, VERSION, has_flag,
+    IGNORE, KOD, LIMITED, NOMODIFY, NOMRULIST, NOQUERY, NOSERVE, NOTRUST, VERSION,
 };
 use net_addr::Prefix;
 
@@ -18,113 +18,36 @@ pub struct Restriction {
     pub flags: u16,
 }
 
-/// The flags of a `restrict` line that are given.
-#[derive(Clone, Copy, Debug, PartialEq, Eq)]
-pub struct RestrictOptions {
-    pub restriction: Restriction,
-    pub has_nopeer: bool,
-    pub has_notrap: bool,
-}
-
-impl RestrictOptions {
-    /// No flags for these prefixes.
-    pub fn of(first: Prefix, second: Option<Prefix>) -> RestrictOptions
-        ensures { result ≡ no_flags first second }
-    {
-        RestrictOptions {
-            restriction: Restriction {
-                first,
-                second,
-                flags: 0,
-            },
-            has_nopeer: false,
-            has_notrap: false,
-        }
-    }
-}
-
-impl Options for RestrictOptions {
-    ghost use Rattle.conf_file.specs.RestrictOptions.{restrict_follows, restrict_means};
-
-    ghost follows = { restrict_follows };
-
-    ghost means = { restrict_means };
-
-    fn next(self, word: &[u8]) -> Option<RestrictOptions> {
-        if is_word(word, b"nopeer") {
-            if self.has_nopeer {
-                return None;
-            }
-            return Some(RestrictOptions {
-                has_nopeer: true,
-                ..self
-            });
-        }
-        if is_word(word, b"notrap") {
-            if self.has_notrap {
-                return None;
-            }
-            return Some(RestrictOptions {
-                has_notrap: true,
-                ..self
-            });
-        }
-        flagged(self, flag_in(word)?)
-    }
-
-    fn line(self) -> Option<Line> {
-        Some(Line::Restrict(self.restriction))
-    }
-}
-
-/// With one flag more, if it is not given yet.
-fn flagged(given: RestrictOptions, flag: u16) -> Option<RestrictOptions>
-    ensures { result ≡ with_flag given flag }
+/// The flags that a `restrict` line may have.
+pub fn flag_table() -> [OptionRule; 11]
+    ensures { result ≡ flag_rules }
 {
-    let restriction = given.restriction;
-    if has_flag(restriction.flags, flag) {
-        return None;
-    }
-    let restriction = Restriction {
-        flags: restriction.flags | flag,
-        ..restriction
-    };
-    Some(RestrictOptions {
-        restriction,
-        ..given
-    })
+    [
+        flag(b"ignore", IGNORE),
+        flag(b"noserve", NOSERVE),
+        flag(b"notrust", NOTRUST),
+        flag(b"version", VERSION),
+        flag(b"noquery", NOQUERY),
+        flag(b"nomrulist", NOMRULIST),
+        flag(b"limited", LIMITED),
+        flag(b"kod", KOD),
+        flag(b"nomodify", NOMODIFY),
+        flag(b"nopeer", 0),
+        flag(b"notrap", 0),
+    ]
 }
 
-/// The flag that a word names.
-fn flag_in(word: &[u8]) -> Option<u16>
-    ensures { result ≡ flag_of word.now }
+/// A word for a flag.
+fn flag(name: &'static [u8], flag: u16) -> OptionRule
+    ensures { result ≡ record { name = name.now; value = Alone flag } }
 {
-    if is_word(word, b"ignore") {
-        return Some(IGNORE);
-    }
-    if is_word(word, b"noserve") {
-        return Some(NOSERVE);
-    }
-    if is_word(word, b"notrust") {
-        return Some(NOTRUST);
-    }
-    if is_word(word, b"version") {
-        return Some(VERSION);
-    }
-    if is_word(word, b"noquery") {
-        return Some(NOQUERY);
-    }
-    if is_word(word, b"nomrulist") {
-        return Some(NOMRULIST);
-    }
-    if is_word(word, b"limited") {
-        return Some(LIMITED);
-    }
-    if is_word(word, b"kod") {
-        return Some(KOD);
-    }
-    if is_word(word, b"nomodify") {
-        return Some(NOMODIFY);
-    }
-    None
+    OptionRule::alone(name, u32::from(flag))
+}
+
+/// The flags that are given.
+pub fn flags_in(given: &Options) -> u16
+    requires { IsGivenBy flag_rules given.now }
+    ensures { result ≡ flags_of given.now }
+{
+    given.joined() as u16
 }

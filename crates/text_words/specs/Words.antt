@@ -1,5 +1,5 @@
 -- Words of a line, separated by spaces and tabs, up to a comment: our own rule.
-use Rattle.std.specs.Prelude.{ℕ, ◌==◌, nat_lt, Bool, not, ◌||◌, List, length, filter, map}
+use Rattle.std.specs.Prelude.{ℕ, ◌==◌, nat_lt, Bool, false, not, bytes_eq, [], ◌∷◌, ◌||◌, List, length, filter, map}
 use Rattle.std.specs.List.{before_first, slice_split}
 use Rattle.text_words.specs.Lines.{lines_of}
 
@@ -26,3 +26,8 @@ words_of line = filter is_some_octets (slice_split is_blank (before_first is_num
 -- the lines of a text, each as its words
 abbrev pub lines_as_words : List ℕ → List (List (List ℕ))
 lines_as_words text = map words_of (lines_of text)
+
+-- whether the first of these words has these octets
+abbrev pub begins_with : List (List ℕ) → List ℕ → Bool
+begins_with [] octets = false
+begins_with (word ∷ words) octets = bytes_eq word octets

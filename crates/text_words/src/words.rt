@@ -1,6 +1,6 @@
 ghost use Rattle.std.specs.Prelude.{◌≡◌, ◌≤◌, ◌∷◌, [], IfSome, IfNone, length};
 ghost use Rattle.std.specs.List.{prefix_len};
-ghost use Rattle.text_words.specs.Words.{words_of, is_blank, is_word_octet};
+ghost use Rattle.text_words.specs.Words.{begins_with, words_of, is_blank, is_word_octet};
 
 use std::marker::Model;
 
@@ -40,6 +40,19 @@ impl<'a> Words<'a> {
             return None;
         }
         Some(word)
+    }
+}
+
+impl<'a> Words<'a> {
+    /// Whether the next word has these octets; it stays.
+    pub fn is_next(&self, octets: &[u8]) -> bool
+        ensures { result ≡ begins_with self.now octets.now }
+    {
+        let mut words = Words { rest: self.rest };
+        match words.next() {
+            Some(word) => word == octets,
+            None => false,
+        }
     }
 }
 
@@ -86,6 +99,7 @@ mod tests {
     #[test]
     fn words_stand_between_blanks_before_a_comment(rt: HostRuntime) {
         let mut words = Words::of(b" ab\tc#d e");
+        assert!(rt; words.is_next(b"ab") && !words.is_next(b"a"));
         assert!(rt; words.next() == Some(b"ab".as_slice()));
         assert!(rt; words.next() == Some(b"c".as_slice()));
         assert!(rt; words.next().is_none());

@@ -1,7 +1,7 @@
 use Rattle.std.proofs.Common.{refl}
 use Rattle.conf_file.specs.ShortLines.{SpellsListen}
 use Rattle.conf_file.proofs.LineLemmas.{no_listen, one_listen, some_listen}
-use Rattle.conf_file.proofs.ReadingLemmas.{only_bad, only_none, only_one, only_two}
+use Rattle.conf_file.proofs.OnlyLemmas.{only_bad, only_none, only_one, only_two}
 use Rattle.conf_file.proofs.listen_lines.listen_line.Goals as goal
 
 pub returns-in_default : goal.returns-in_default

@@ -1,9 +1,17 @@
-use Rattle.conf_file.specs.ListOptions.{list_follows, list_means}
-use Rattle.conf_file.specs.declared.list_options.ListState.TheVariants.{Start}
-use Rattle.conf_file.proofs.OptionLineLemmas.{list_ends}
-use Rattle.conf_file.proofs.ReadingLemmas.{read_options_as}
+use Rattle.std.proofs.Common.{refl}
+use Rattle.conf_file.specs.OptionLines.{list_with, mru_rules}
+use Rattle.conf_file.specs.declared.lines.Line.TheVariants.{Mru}
+use Rattle.conf_file.proofs.OptionLineLemmas.{given_by, mru_sound, refused_by}
 use Rattle.conf_file.proofs.option_lines.mru_line.Goals as goal
 
-pub returns : goal.returns
-returns c =
-    read_options_as list_follows list_means Start 2 _ _ list_ends c.read_options.ensures.found c.read_options.ensures.only c.read_options.ensures.stuck
+pub read_options-requires-clause-sound : goal.read_options-requires-clause-sound
+read_options-requires-clause-sound c = rw c.mru_table.ensures mru_sound
+
+pub returns-in-Err : goal.returns-in-Err
+returns-in-Err c =
+    refused_by 1 c.mru_table.result mru_rules (λ given. Mru (list_with given)) 2 c.args.words.now c.read_options.result c.in-Err.number c.mru_table.ensures c.in-Err.is c.read_options.ensures
+
+pub returns-in-Ok : goal.returns-in-Ok
+returns-in-Ok c =
+    given_by 1 c.mru_table.result mru_rules (λ given. Mru (list_with given)) 2 c.args.words.now c.read_options.result c.in-Ok.given _ c.mru_table.ensures c.in-Ok.is
+    (rw (c.number.ensures, c.number-in-Ok.ensures, c.number-in-Ok-2.ensures, c.number-in-Ok-3.ensures) refl) c.read_options.ensures

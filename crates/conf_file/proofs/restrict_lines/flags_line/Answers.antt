@@ -1,13 +1,12 @@
-use Rattle.std.proofs.Common.{subst}
-use Rattle.conf_file.specs.Options.{AreOptions, IsReadAs}
-use Rattle.conf_file.specs.RestrictOptions.{restrict_follows, restrict_means}
-use Rattle.conf_file.specs.declared.restrict_options.RestrictOptions.{RestrictOptions}
-use Rattle.conf_file.proofs.OptionLineLemmas.{restrict_ends}
-use Rattle.conf_file.proofs.ReadingLemmas.{read_options_as}
+use Rattle.conf_file.specs.RestrictOptions.{flag_rules, restricted_by}
+use Rattle.conf_file.specs.declared.lines.Line.TheVariants.{Restrict}
+use Rattle.conf_file.proofs.OptionLineLemmas.{flags_sound, refused_by}
 use Rattle.conf_file.proofs.restrict_lines.flags_line.Goals as goal
 
-pub returns : goal.returns
-returns c =
-    let read = read_options_as restrict_follows restrict_means c.of.result c.args.number c.args.words.now c.read_options.result restrict_ends c.read_options.ensures.found c.read_options.ensures.only c.read_options.ensures.stuck in
-    let P : RestrictOptions → Type 0 = λ given. IsReadAs c.args.number (AreOptions restrict_follows restrict_means given) c.args.words.now c.read_options.result in
-    subst P c.of.ensures read
+pub read_options-requires-clause-sound : goal.read_options-requires-clause-sound
+read_options-requires-clause-sound c = rw c.flag_table.ensures flags_sound
+
+pub returns-in-Err : goal.returns-in-Err
+returns-in-Err c =
+    refused_by 0 c.flag_table.result flag_rules (λ given. Restrict (restricted_by c.args.first c.args.second given)) c.args.number c.args.words.now c.read_options.result c.in-Err.number c.flag_table.ensures c.in-Err.is
+    c.read_options.ensures

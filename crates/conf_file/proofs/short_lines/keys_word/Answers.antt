@@ -1,7 +1,7 @@
 use Rattle.std.proofs.Common.{sym, refl, ◌∙◌}
 use Rattle.conf_file.specs.ShortLines.{SpellsKeys}
 use Rattle.conf_file.proofs.ShortLineLemmas.{no_keys, some_keys}
-use Rattle.conf_file.proofs.ReadingLemmas.{only_bad, only_none, only_two}
+use Rattle.conf_file.proofs.OnlyLemmas.{only_bad, only_none, only_two}
 use Rattle.conf_file.proofs.short_lines.keys_word.Goals as goal
 
 pub returns-in_default-clause-refused : goal.returns-in_default-clause-refused

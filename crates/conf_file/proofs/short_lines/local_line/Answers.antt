@@ -1,7 +1,7 @@
 use Rattle.std.proofs.Common.{sym, refl}
 use Rattle.conf_file.specs.ShortLines.{SpellsLocal}
 use Rattle.conf_file.proofs.ShortLineLemmas.{no_local, some_local}
-use Rattle.conf_file.proofs.ReadingLemmas.{only_bad, only_none, only_two}
+use Rattle.conf_file.proofs.OnlyLemmas.{only_bad, only_none, only_two}
 use Rattle.conf_file.proofs.short_lines.local_line.Goals as goal
 
 pub returns-in_default : goal.returns-in_default
