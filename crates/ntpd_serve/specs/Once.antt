@@ -13,7 +13,7 @@ use Rattle.sys_vars.specs.declared.context.Context.{Context}
 use Rattle.server_core.specs.States.{ServerState}
 use Rattle.server_core.specs.declared.response.Response.{Response}
 use Rattle.server_core.specs.declared.response.Response.TheVariants.{Silent as NoAnswer}
-use Rattle.server_core.specs.declared.response.Silence.{Silence}
+use Rattle.server_core.specs.declared.response.Silence.{Silence as Reason}
 use Rattle.server_core.specs.declared.response.Silence.TheVariants.{Ignored, Limited}
 use Rattle.server_core.specs.Responses.{IsResponse, grams_of}
 use Rattle.ntpd_serve.specs.declared.ending.Ending.{Ending}
@@ -57,7 +57,7 @@ pub record IsAnswer (common : Common) (s : ServerState) (from : Addr) (octets : 
   pub one : grams_of common.keys came sent response ≡ gram ∷ []
 
 -- The datagram gets no answer, for this reason, and none is given. The clock was read once.
-pub record IsUnanswered (common : Common) (s : ServerState) (from : Addr) (octets : List ℕ) (why : Silence) (events : List Event) (readings : List ℕ) : Type 0 where
+pub record IsUnanswered (common : Common) (s : ServerState) (from : Addr) (octets : List ℕ) (why : Reason) (events : List Event) (readings : List ℕ) : Type 0 where
   pub came : ℕ
   pub read : readings ≡ came ∷ []
   pub is_response : IsResponse s common.keys (context_at common came) from octets (NoAnswer why)
