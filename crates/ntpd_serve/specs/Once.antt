@@ -8,6 +8,7 @@ use Rattle.edge_traits.specs.declared.port.Event.{Event}
 use Rattle.edge_traits.specs.declared.status.Status.{Status}
 use Rattle.edge_traits.specs.declared.port.Event.TheVariants.{Took, Silence, Sent}
 use Rattle.recency.specs.declared.limits.Limits.{Limits}
+use Rattle.recency.specs.declared.limits.TheConstants.{PLAIN_MAXAGE, PLAIN_MAXDEPTH, PLAIN_MINAGE, PLAIN_MINDEPTH}
 use Rattle.sys_vars.specs.Opening.{IsOpening}
 use Rattle.sys_vars.specs.declared.context.Context.{Context}
 use Rattle.server_core.specs.States.{ServerState}
@@ -27,12 +28,12 @@ use Rattle.ntpd_serve.specs.declared.once.TheConstants.{PATIENCE}
 unfoldable pub silences : ℕ → List Event
 silences n = replicate n Silence
 
--- the limits of a client list where nothing else is said: 600 to 1,024 rows, 64 to 3,600 seconds
+-- the limits of a client list where nothing else is said
 pub record ArePlainLimits (limits : Limits) : Type 0 where
-  pub mindepth : limits.mindepth ≡ 600
-  pub maxdepth : limits.maxdepth ≡ 1024
-  pub minage : limits.minage ≡ 64 * 2 ^ 32
-  pub maxage : limits.maxage ≡ 3600 * 2 ^ 32
+  pub mindepth : limits.mindepth ≡ PLAIN_MINDEPTH
+  pub maxdepth : limits.maxdepth ≡ PLAIN_MAXDEPTH
+  pub minage : limits.minage ≡ PLAIN_MINAGE * 2 ^ 32
+  pub maxage : limits.maxage ≡ PLAIN_MAXAGE * 2 ^ 32
 
 -- the server that a run begins with: an opening record is published, and nobody has asked yet
 pub record IsOpeningState (origin : Ntp64) (s : ServerState) : Type 0 where
