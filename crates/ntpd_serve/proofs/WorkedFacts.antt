@@ -1,8 +1,7 @@
 -- The numbers and texts of the program, by hand. They are our own rules.
 use Rattle.std.proofs.Common.{◌≡◌, codes, refl}
-use Rattle.server_core.specs.declared.class.Unheard.TheVariants.{Packet}
-use Rattle.server_core.specs.declared.response.Silence.TheVariants.{Unheard, Limited}
-use Rattle.ntpd_serve.specs.declared.ending.Ending.TheVariants.{Answered, Silent, Failed}
+use Rattle.server_core.specs.declared.response.Silence.TheVariants.{Limited}
+use Rattle.ntpd_serve.specs.declared.ending.Ending.TheVariants.{Silent, Failed}
 use Rattle.ntpd_serve.specs.declared.ending.Failure.TheVariants.{Quiet}
 use Rattle.ntpd_serve.specs.declared.once.TheConstants.{PATIENCE}
 use Rattle.ntpd_serve.specs.declared.usage.TheConstants.{VERSION}
@@ -14,15 +13,7 @@ PATIENCE-is = refl
 VERSION-is : VERSION.now ≡ codes "ntpd 0.1.0\n"
 VERSION-is = refl
 
--- a line of each kind of ending
-answered : line_of (Answered 1) ≡ codes "answered 1\n"
-unfolding line_of
-answered = refl
-
-unheard : line_of (Silent (Unheard (Packet 2))) ≡ codes "silent packet 2\n"
-unfolding line_of
-unheard = refl
-
+-- lines without a number
 limited : line_of (Silent Limited) ≡ codes "silent limited\n"
 unfolding line_of
 limited = refl

@@ -8,12 +8,13 @@ use Rattle.edge_traits.specs.declared.port.Event.{Event}
 use Rattle.edge_traits.specs.declared.status.Status.{Status}
 use Rattle.edge_traits.specs.declared.port.Event.TheVariants.{Took, Silence, Sent}
 use Rattle.recency.specs.declared.limits.Limits.{Limits}
+use Rattle.recency.specs.declared.limits.TheConstants.{PLAIN_MAXAGE, PLAIN_MAXDEPTH, PLAIN_MINAGE, PLAIN_MINDEPTH}
 use Rattle.sys_vars.specs.Opening.{IsOpening}
 use Rattle.sys_vars.specs.declared.context.Context.{Context}
 use Rattle.server_core.specs.States.{ServerState}
 use Rattle.server_core.specs.declared.response.Response.{Response}
 use Rattle.server_core.specs.declared.response.Response.TheVariants.{Silent as NoAnswer}
-use Rattle.server_core.specs.declared.response.Silence.{Silence}
+use Rattle.server_core.specs.declared.response.Silence.{Silence as Reason}
 use Rattle.server_core.specs.declared.response.Silence.TheVariants.{Ignored, Limited}
 use Rattle.server_core.specs.Responses.{IsResponse, grams_of}
 use Rattle.ntpd_serve.specs.declared.ending.Ending.{Ending}
@@ -27,12 +28,12 @@ use Rattle.ntpd_serve.specs.declared.once.TheConstants.{PATIENCE}
 unfoldable pub silences : ℕ → List Event
 silences n = replicate n Silence
 
--- the limits of a client list where nothing else is said: 600 to 1,024 rows, 64 to 3,600 seconds
+-- the limits of a client list where nothing else is said
 pub record ArePlainLimits (limits : Limits) : Type 0 where
-  pub mindepth : limits.mindepth ≡ 600
-  pub maxdepth : limits.maxdepth ≡ 1024
-  pub minage : limits.minage ≡ 64 * 2 ^ 32
-  pub maxage : limits.maxage ≡ 3600 * 2 ^ 32
+  pub mindepth : limits.mindepth ≡ PLAIN_MINDEPTH
+  pub maxdepth : limits.maxdepth ≡ PLAIN_MAXDEPTH
+  pub minage : limits.minage ≡ PLAIN_MINAGE * 2 ^ 32
+  pub maxage : limits.maxage ≡ PLAIN_MAXAGE * 2 ^ 32
 
 -- the server that a run begins with: an opening record is published, and nobody has asked yet
 pub record IsOpeningState (origin : Ntp64) (s : ServerState) : Type 0 where
@@ -57,7 +58,7 @@ pub record IsAnswer (common : Common) (s : ServerState) (from : Addr) (octets : 
   pub one : grams_of common.keys came sent response ≡ gram ∷ []
 
 -- The datagram gets no answer, for this reason, and none is given. The clock was read once.
-pub record IsUnanswered (common : Common) (s : ServerState) (from : Addr) (octets : List ℕ) (why : Silence) (events : List Event) (readings : List ℕ) : Type 0 where
+pub record IsUnanswered (common : Common) (s : ServerState) (from : Addr) (octets : List ℕ) (why : Reason) (events : List Event) (readings : List ℕ) : Type 0 where
   pub came : ℕ
   pub read : readings ≡ came ∷ []
   pub is_response : IsResponse s common.keys (context_at common came) from octets (NoAnswer why)

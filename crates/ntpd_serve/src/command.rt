@@ -127,7 +127,8 @@ fn serve<P: Port, C: Clock, S: Sink>(
     ensures port_failed { result.status.0 ≡ 4
         → IsSomeAnd result.single (λ left. Rose 1 (P.faults single.port) (P.faults left.port)) }
     ensures quiet { result.status.0 ≡ 6
-        → IsSomeAnd result.single (λ left. Rose PATIENCE (P.quiets single.port) (P.quiets left.port)) }
+        → IsSomeAnd result.single (λ left.
+        Rose PATIENCE (P.quiets single.port) (P.quiets left.port)) }
     ensures closed { result.status.0 ≡ 7
         → IsSomeAnd result.single (λ left. IsTrue (P.is_closed left.port)) }
     ensures sink_failed { result.status.0 ≡ 8 → Rose 1 (S.faults out.old) (S.faults out.new) }

@@ -1,6 +1,7 @@
 //! The program `ntpd`: an NTP server. Today it serves one datagram, by `once ADDR:PORT`.
 //!
-//! Layer 7. Stands on: `server_core`, `recency`, `access_rules`, `sys_vars`, `mode6_frame`, `mac_keys`, `edge_traits`, `net_addr`, `fixed_time`.
+//! Layer 7. Stands on: `server_core`, `recency`, `access_rules`, `sys_vars`, `mac_keys`,
+//! `edge_traits`, `net_addr`, `fixed_time`.
 //! Promises: `once` gives the defined answer to one datagram and nothing else, and prints the line
 //! of its status.
 #![tactic(auto)]
@@ -16,7 +17,7 @@ mod tests;
 mod usage;
 
 use command::ntpd;
-use edge_traits::{OpenGate, RealHost, StandardOutput, Status};
+use edge_traits::{OpenGate, RealHost, StandardOutput};
 use ending::{Ending, Failure};
 use report::report;
 use std::process::ExitCode;
@@ -24,19 +25,19 @@ use std::process::ExitCode;
 fn main(rt: HostRuntime) -> ExitCode {
     let mut out = StandardOutput::new(rt);
     let status = match usage::words(&rt) {
-        Ok(words) => run(rt, words.as_slice(), &mut out),
         Err(_) => report(&Ending::Failed(Failure::NoMemory), &mut out),
+        Ok(words) => match usage::notice_of(words.as_slice()) {
+            Some(notice) => usage::print(notice, &mut out),
+            None => ntpd(
+                &rt,
+                rt.alloc(),
+                words.as_slice(),
+                &mut RealHost::new(rt),
+                &OpenGate,
+                &mut out,
+            )
+            .status,
+        },
     };
     ExitCode::from(status.0)
-}
-
-/// Does what the words ask for.
-fn run(rt: HostRuntime, words: &[String], out: &mut StandardOutput<HostRuntime>) -> Status {
-    match usage::notice_of(words) {
-        Some(notice) => usage::print(notice, out),
-        None => {
-            let mut host = RealHost::new(rt);
-            ntpd(&rt, rt.alloc(), words, &mut host, &OpenGate, out).status
-        }
-    }
 }

@@ -132,7 +132,8 @@ fn serve_next<P: Port, C: Clock>(
 /// Takes until a datagram comes, or the call is to give up.
 fn wait_for_datagram<P: Port>(port: &mut P, into: &mut Octets) -> Result<Addr, Failure>
     ensures came { IfOk result (λ from. (quiets : ℕ) × (quiets < PATIENCE)
-        × (P.trace port.new ≡ gained (P.trace port.old) (silences quiets ++ Took from into.new ∷ []))) }
+        × (P.trace port.new
+        ≡ gained (P.trace port.old) (silences quiets ++ Took from into.new ∷ []))) }
     ensures ended { IfErr result (λ why. (events : List Event) × OnlySilences why events
         × (P.trace port.new ≡ gained (P.trace port.old) events)) }
     ensures causes { IfErr result (λ why. Causes (Ending.Failed why)

@@ -254,7 +254,10 @@ fn the_mac_of_a_request_decides_what_ends_the_reply(rt: HostRuntime) -> Result<(
     assert!(rt; ends_with(alloc, b"", b"", b"")?);
     assert!(rt; ends_with(alloc, b"", &MAC, &REPLY_MAC)?);
     assert!(rt; ends_with(alloc, &FIELD, &MAC_WITH_FIELD, &REPLY_MAC)?);
-    assert!(rt; ends_with(alloc, &FIELD, &MAC, &NAK)?, "the MAC of the header alone");
+    assert!(rt;
+        ends_with(alloc, &FIELD, &MAC, &NAK)?,
+        "the MAC of the header alone"
+    );
     let one_bit = with(&MAC, 19, MAC[19] ^ 1);
     assert!(rt; ends_with(alloc, b"", one_bit.as_slice(), &NAK)?);
     let unknown_key = with(&MAC, 3, 8);
@@ -394,7 +397,14 @@ fn faults_of_port_and_sink_have_their_status(rt: HostRuntime) -> Result<(), Fail
     assert!(rt; is_so(&untaken, 4, "ntpd: port\n", b""));
 
     let first_give = vec![in alloc; 0u64]?;
-    let unsent = run_over(&rt, alloc, ONCE, one(alloc, &REQUEST)?, first_give, Vec::new(alloc))?;
+    let unsent = run_over(
+        &rt,
+        alloc,
+        ONCE,
+        one(alloc, &REQUEST)?,
+        first_give,
+        Vec::new(alloc),
+    )?;
     assert!(rt; is_so(&unsent, 4, "ntpd: port\n", b""));
 
     let first_write = vec![in alloc; 0u64]?;

@@ -7,13 +7,11 @@ use Rattle.net_addr.specs.declared.addr.Addr.{Addr}
 use Rattle.mac_keys.specs.declared.checking.Auth.{Auth}
 use Rattle.mac_keys.specs.declared.keys.Key.{Key}
 use Rattle.ntp_packet.specs.declared.packet.Header.{Header}
-use Rattle.ntp_packet.specs.declared.packet.PacketFault.{PacketFault}
 use Rattle.ntp_packet.specs.FirstOctet.{mode_of}
-use Rattle.ntp_packet.specs.Packet.{IsPacket, fault_of}
-use Rattle.ntp_trailer.specs.declared.parts.Trailer.{Trailer as FieldsAndMac}
-use Rattle.ntp_trailer.specs.declared.parts.TrailerFault.{TrailerFault}
-use Rattle.ntp_trailer.specs.Trailers.{HasTrailer, IsRefused}
-use Rattle.ntp_trailer.specs.Authentic.{IsAuth}
+use Rattle.ntp_trailer.specs.declared.packet.JudgedPacket.{JudgedPacket}
+use Rattle.ntp_trailer.specs.declared.packet.ReadFault.{ReadFault}
+use Rattle.ntp_trailer.specs.declared.packet.ReadFault.TheVariants.{BadHeader, BadTrailer}
+use Rattle.ntp_trailer.specs.Packets.{IsJudgedPacket, IsUnreadable}
 use Rattle.mode6_frame.specs.declared.message.FrameFault.{FrameFault}
 use Rattle.mode6_frame.specs.Frames.{FrameParts, IsFrame, frame_fault_of}
 use Rattle.sys_vars.specs.declared.asked.Asked.{Asked}
@@ -22,8 +20,9 @@ use Rattle.ntp_packet.specs.declared.leap_version_mode.TheConstants.{MODE_CLIENT
 use Rattle.server_core.specs.declared.class.Ask.{Ask}
 use Rattle.server_core.specs.declared.class.Class.{Class}
 use Rattle.server_core.specs.declared.class.Class.TheVariants.{Silent, Time, Look}
+use Rattle.server_core.specs.declared.class.Unheard.{Unheard}
 use Rattle.server_core.specs.declared.class.Unheard.TheVariants.{Packet, Trailer, Frame, Unserved, NotRequest}
-use Rattle.server_core.specs.Class.{IsClass, IsAskOf, IsTimeRequest, packet_number, trailer_number}
+use Rattle.server_core.specs.Class.{IsClass, IsAskOf, IsTimeRequest, unheard_by}
 use Rattle.server_core.specs.Control.{IsRequest, IsAskedOf, frame_number, has_answer_bit}
 use Rattle.server_core.proofs.ControlLemmas.{frame_mode}
 
@@ -47,11 +46,11 @@ not_both octets client control = absurd (omega (arith, client, control))
 pub only_empty : (octets : List ℕ) (from : Addr) (keys : List Key) (context : Context) → octets ≡ [] → (class : Class) → IsClass octets from keys context class → Silent (Packet 1) ≡ class
 only_empty octets from keys context empty (Silent (Packet number)) (inl is) = ap (λ n. Silent (Packet n)) (sym is.1)
 only_empty octets from keys context empty (Silent (Packet number)) (inr refused) = absurd (client_is_some octets refused.0 empty)
-only_empty octets from keys context empty (Silent (Trailer number)) long = absurd (client_is_some octets long.0.1.client empty)
+only_empty octets from keys context empty (Silent (Trailer number)) long = absurd (client_is_some octets long.0 empty)
 only_empty octets from keys context empty (Silent (Frame number)) refused = absurd (control_is_some octets refused.0 empty)
 only_empty octets from keys context empty (Silent (Unserved mode)) unserved = absurd (unserved.0 empty)
 only_empty octets from keys context empty (Silent NotRequest) answer = absurd (control_is_some octets (frame_mode octets answer.0 answer.1) empty)
-only_empty octets from keys context empty (Time ask) request = absurd (client_is_some octets request.packet.client empty)
+only_empty octets from keys context empty (Time ask) request = absurd (client_is_some octets request.client empty)
 only_empty octets from keys context empty (Look asked) look = absurd (control_is_some octets (frame_mode octets look.0 look.1.frame) empty)
 
 -- what is of another mode is that and nothing else
@@ -59,30 +58,38 @@ pub only_unserved : (octets : List ℕ) (from : Addr) (keys : List Key) (context
     → (class : Class) → IsClass octets from keys context class → Silent (Unserved mode) ≡ class
 only_unserved octets from keys context mode some is other no_control (Silent (Packet number)) (inl empty) = absurd (some empty.0)
 only_unserved octets from keys context mode some is other no_control (Silent (Packet number)) (inr short) = absurd (other (is ∙ short.0))
-only_unserved octets from keys context mode some is other no_control (Silent (Trailer number)) long = absurd (other (is ∙ long.0.1.client))
+only_unserved octets from keys context mode some is other no_control (Silent (Trailer number)) long = absurd (other (is ∙ long.0))
 only_unserved octets from keys context mode some is other no_control (Silent (Frame number)) refused = absurd (no_control (is ∙ refused.0))
 only_unserved octets from keys context mode some is other no_control (Silent (Unserved its)) unserved = ap (λ m. Silent (Unserved m)) (is ∙ sym unserved.1)
 only_unserved octets from keys context mode some is other no_control (Silent NotRequest) answer = absurd (no_control (is ∙ frame_mode octets answer.0 answer.1))
-only_unserved octets from keys context mode some is other no_control (Time ask) request = absurd (other (is ∙ request.packet.client))
+only_unserved octets from keys context mode some is other no_control (Time ask) request = absurd (other (is ∙ request.client))
 only_unserved octets from keys context mode some is other no_control (Look asked) look = absurd (no_control (is ∙ frame_mode octets look.0 look.1.frame))
 
--- a class of a client's packet: what is refused, or refused behind the header, or a request for the time
+-- a class of a client's packet: why it is no packet, or the request that it is
 abbrev IsClientClass : List ℕ → Addr → List Key → Class → Type 0
 IsClientClass octets from keys class =
-    ((fault : PacketFault) × (fault_of octets ≡ Some fault) × (class ≡ Silent (Packet (packet_number fault))))
-    ⊎ (((h : Header) × IsPacket octets h × (fault : TrailerFault) × IsRefused octets fault × (class ≡ Silent (Trailer (trailer_number fault))))
-    ⊎ ((ask : Ask) × IsTimeRequest octets from keys ask × (class ≡ Time ask)))
+    ((fault : ReadFault) × IsUnreadable octets fault × (class ≡ Silent (unheard_by fault)))
+    ⊎ ((ask : Ask) × IsTimeRequest octets from keys ask × (class ≡ Time ask))
 
 -- a client's packet has one of these
 client_class : (octets : List ℕ) (from : Addr) (keys : List Key) (context : Context) → mode_of octets ≡ MODE_CLIENT → (class : Class) → IsClass octets from keys context class → IsClientClass octets from keys class
 client_class octets from keys context client (Silent (Packet number)) (inl empty) = absurd (client_is_some octets client empty.0)
-client_class octets from keys context client (Silent (Packet number)) (inr (_, (fault, refused, is))) = inl (fault, refused, ap (λ n. Silent (Packet n)) is)
-client_class octets from keys context client (Silent (Trailer number)) ((h, packet), (fault, refused, is)) = inr (inl (h, packet.packet, fault, refused, ap (λ n. Silent (Trailer n)) is))
+client_class octets from keys context client (Silent (Packet number)) (inr (_, (fault, refused, is))) = inl (BadHeader fault, refused, ap (λ n. Silent (Packet n)) is)
+client_class octets from keys context client (Silent (Trailer number)) (_, (fault, refused, is)) = inl (BadTrailer fault, refused, ap (λ n. Silent (Trailer n)) is)
 client_class octets from keys context client (Silent (Frame number)) refused = absurd (not_both octets client refused.0)
 client_class octets from keys context client (Silent (Unserved mode)) unserved = absurd (unserved.2 (unserved.1 ∙ client))
 client_class octets from keys context client (Silent NotRequest) answer = absurd (not_both octets client (frame_mode octets answer.0 answer.1))
-client_class octets from keys context client (Time ask) request = inr (inr (ask, request, refl))
+client_class octets from keys context client (Time ask) request = inr (ask, request, refl)
 client_class octets from keys context client (Look asked) look = absurd (not_both octets client (frame_mode octets look.0 look.1.frame))
+
+-- what is no packet is silent
+IsClass-unreadable : (octets : List ℕ) (from : Addr) (keys : List Key) (context : Context) (fault : ReadFault) → mode_of octets ≡ MODE_CLIENT → IsUnreadable octets fault → IsClass octets from keys context (Silent (unheard_by fault))
+IsClass-unreadable octets from keys context (BadHeader fault) client refused = inr (client, (fault, refused, refl))
+IsClass-unreadable octets from keys context (BadTrailer fault) client refused = (client, (fault, refused, refl))
+
+pub silent_unreadable : (octets : List ℕ) (from : Addr) (keys : List Key) (context : Context) (fault : ReadFault) (why : Unheard) → why ≡ unheard_by fault → mode_of octets ≡ MODE_CLIENT → IsUnreadable octets fault → IsClass octets from keys context (Silent why)
+silent_unreadable octets from keys context fault why is client refused =
+    subst (λ w. IsClass octets from keys context (Silent w)) (sym is) (IsClass-unreadable octets from keys context fault client refused)
 
 -- an ask by its parts
 abbrev ask_of : (from : Addr) (version : ℕ) (poll : ℤ) (transmit : Ntp64) (auth : Auth) → 1 ≤ version → version ≤ 4 → Ask
@@ -109,47 +116,28 @@ ask_same h from auth a b first second =
     ∙ ap (λ (u : Auth). ask_of b.from a.version b.poll b.transmit u a.version_least a.version_most) auth_is
     ∙ same_but_for_proofs b.from a.version b.version b.poll b.transmit b.auth version_is a.version_least a.version_most b.version_least b.version_most
 
--- what is refused as a packet is that and nothing else
-pub only_packet : (octets : List ℕ) (from : Addr) (keys : List Key) (context : Context) (fault : PacketFault) (number : ℕ) → number ≡ packet_number fault → mode_of octets ≡ MODE_CLIENT → fault_of octets ≡ Some fault → ((h : Header) → ¬ IsPacket octets h)
-    → (class : Class) → IsClass octets from keys context class → Silent (Packet number) ≡ class
-only_packet octets from keys context fault number is_number client refused none class is = by_class (client_class octets from keys context client class is)
+-- what is no packet is that and nothing else
+pub only_unreadable : (octets : List ℕ) (from : Addr) (keys : List Key) (context : Context) (fault : ReadFault) (why : Unheard) → why ≡ unheard_by fault → mode_of octets ≡ MODE_CLIENT
+    → ((other : ReadFault) → IsUnreadable octets other → fault ≡ other) → ((judged : JudgedPacket) → ¬ IsJudgedPacket keys octets judged)
+    → (class : Class) → IsClass octets from keys context class → Silent why ≡ class
+only_unreadable octets from keys context fault why is client due none class is_class = by_class (client_class octets from keys context client class is_class)
   where
-    by_class : IsClientClass octets from keys class → Silent (Packet number) ≡ class
-    by_class (inl (other, other_refused, its)) =
-        let faults : Some fault ≡ Some other = sym refused ∙ other_refused in
-        let same : fault ≡ other = cc in
-        ap (λ n. Silent (Packet n)) (is_number ∙ ap (λ (f : PacketFault). packet_number f) same) ∙ sym its
-    by_class (inr (inl (h, packet, _, _, _))) = absurd (none h packet)
-    by_class (inr (inr (_, request, _))) = absurd (none request.header request.packet.packet)
+    by_class : IsClientClass octets from keys class → Silent why ≡ class
+    by_class (inl (other, refused, its)) = ap Silent (is ∙ ap (λ (f : ReadFault). unheard_by f) (due other refused)) ∙ sym its
+    by_class (inr (_, request, _)) = absurd (none request.judged request.packet)
 
--- what is refused behind the header is that and nothing else
-pub only_trailer : (octets : List ℕ) (from : Addr) (keys : List Key) (context : Context) (fault : TrailerFault) (number : ℕ) → number ≡ trailer_number fault → mode_of octets ≡ MODE_CLIENT → fault_of octets ≡ None
-    → ((trailer : FieldsAndMac) → ¬ HasTrailer octets trailer) → ((other : TrailerFault) → IsRefused octets other → fault ≡ other)
-    → (class : Class) → IsClass octets from keys context class → Silent (Trailer number) ≡ class
-only_trailer octets from keys context fault number is_number client good none due class is = by_class (client_class octets from keys context client class is)
-  where
-    by_class : IsClientClass octets from keys class → Silent (Trailer number) ≡ class
-    by_class (inl (other, refused, _)) = absurd (cc (good, refused))
-    by_class (inr (inl (_, _, other, refused, its))) =
-        ap (λ n. Silent (Trailer n)) (is_number ∙ ap (λ (f : TrailerFault). trailer_number f) (due other refused)) ∙ sym its
-    by_class (inr (inr (_, request, _))) = absurd (none request.trailer request.follows)
-
--- what is read as a client's header, fields and MAC is that request and nothing else
-pub only_time : (octets : List ℕ) (from : Addr) (keys : List Key) (context : Context) (h : Header) (trailer : FieldsAndMac) (auth : Auth) (ask : Ask) → mode_of octets ≡ MODE_CLIENT → fault_of octets ≡ None → ((other : Header) → IsPacket octets other → h ≡ other)
-    → ((other : FieldsAndMac) → HasTrailer octets other → trailer ≡ other) → ((fault : TrailerFault) → ¬ IsRefused octets fault)
-    → ((other : Auth) → IsAuth keys octets trailer other → auth ≡ other) → IsAskOf h from auth ask → (class : Class) → IsClass octets from keys context class → Time ask ≡ class
-only_time octets from keys context h trailer auth ask client good one only none shown is class is_class = by_class (client_class octets from keys context client class is_class)
+-- what is a client's packet is that request and nothing else
+pub only_time : (octets : List ℕ) (from : Addr) (keys : List Key) (context : Context) (judged : JudgedPacket) (ask : Ask) → mode_of octets ≡ MODE_CLIENT
+    → ((other : JudgedPacket) → IsJudgedPacket keys octets other → judged ≡ other) → ((fault : ReadFault) → ¬ IsUnreadable octets fault)
+    → IsAskOf judged.header from judged.auth ask → (class : Class) → IsClass octets from keys context class → Time ask ≡ class
+only_time octets from keys context judged ask client one none is class is_class = by_class (client_class octets from keys context client class is_class)
   where
     by_class : IsClientClass octets from keys class → Time ask ≡ class
-    by_class (inl (fault, refused, _)) = absurd (cc (good, refused))
-    by_class (inr (inl (_, _, fault, refused, _))) = absurd (none fault refused)
-    by_class (inr (inr (other, request, its))) =
-        let header : h ≡ request.header = one request.header request.packet.packet in
-        let behind : trailer ≡ request.trailer = only request.trailer request.follows in
-        let auths : auth ≡ request.auth = shown request.auth (subst (λ (t : FieldsAndMac). IsAuth keys octets t request.auth) (sym behind) request.shown) in
-        let of_header = subst (λ (g : Header). IsAskOf g from request.auth other) (sym header) request.is in
-        let of_both = subst (λ (a : Auth). IsAskOf h from a other) (sym auths) of_header in
-        ap Time (ask_same h from auth ask other is of_both) ∙ sym its
+    by_class (inl (fault, refused, _)) = absurd (none fault refused)
+    by_class (inr (other, request, its)) =
+        let same : judged ≡ request.judged = one request.judged request.packet in
+        let of_judged = subst (λ (j : JudgedPacket). IsAskOf j.header from j.auth other) (sym same) request.is in
+        ap Time (ask_same judged.header from judged.auth ask other is of_judged) ∙ sym its
 
 -- a class of a control message: what is refused, what is no request, or what it asks for
 abbrev pub IsControlClass : List ℕ → Addr → Class → Type 0
@@ -162,11 +150,11 @@ IsControlClass octets from class =
 pub control_class : (octets : List ℕ) (from : Addr) (keys : List Key) (context : Context) → mode_of octets ≡ MODE_CONTROL → (class : Class) → IsClass octets from keys context class → IsControlClass octets from class
 control_class octets from keys context control (Silent (Packet number)) (inl empty) = absurd (control_is_some octets control empty.0)
 control_class octets from keys context control (Silent (Packet number)) (inr refused) = absurd (not_both octets refused.0 control)
-control_class octets from keys context control (Silent (Trailer number)) long = absurd (not_both octets long.0.1.client control)
+control_class octets from keys context control (Silent (Trailer number)) long = absurd (not_both octets long.0 control)
 control_class octets from keys context control (Silent (Frame number)) (_, (fault, refused, is)) = inl (fault, refused, ap (λ n. Silent (Frame n)) is)
 control_class octets from keys context control (Silent (Unserved mode)) unserved = absurd (unserved.3 (unserved.1 ∙ control))
 control_class octets from keys context control (Silent NotRequest) (f, frame, answer) = inr (inl (f, frame, answer, refl))
-control_class octets from keys context control (Time ask) request = absurd (not_both octets request.packet.client control)
+control_class octets from keys context control (Time ask) request = absurd (not_both octets request.client control)
 control_class octets from keys context control (Look asked) (f, request, is) = inr (inr (f, asked, request, is, refl))
 
 -- what is a request is that and nothing else

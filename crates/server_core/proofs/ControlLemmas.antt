@@ -1,15 +1,17 @@
 -- A control message asks for one thing, and names no more variables than have room.
-use Rattle.std.proofs.Common.{◌≡◌, ◌≢◌, ◌≤◌, ◌<◌, ◌+◌, ◌*◌, ◌⊎◌, ℕ, zero, suc, List, [], ◌∷◌, ◌++◌, length, take, slice_index, slice_index_or, Ok, refl, sym, ap, subst, ◌∙◌, inl, inr, arith, length-append, length-take}
+use Rattle.std.proofs.Common.{◌≡◌, ◌≢◌, ◌≤◌, ◌<◌, ◌+◌, ◌*◌, ◌⊎◌, ℕ, zero, suc, List, [], ◌∷◌, ◌++◌, length, take, slice_index, slice_index_or, Result, Ok, Err, refl, sym, ap, subst, ◌∙◌, inl, inr, arith, length-append, length-take}
 use Rattle.std.proofs.lemmas.Bool.{cases_lt}
 use Rattle.std.proofs.lemmas.List.{take_more, take_all, get_or-take}
 use Rattle.std.proofs.Math.Bridge.{le_prop}
 use Rattle.std.specs.List.{AllByRecursion}
 use Rattle.net_addr.specs.declared.addr.Addr.{Addr}
 use Rattle.mode6_frame.specs.declared.items.Item.{Item}
+use Rattle.mode6_frame.specs.declared.items.ItemFault.{ItemFault}
+use Rattle.mode6_frame.specs.declared.items.ItemFault.TheVariants.{NoMemory}
 use Rattle.mode6_frame.specs.declared.message.TheConstants.{HEAD_LEN}
 use Rattle.mode6_frame.specs.declared.message.Head.{Head}
 use Rattle.mode6_frame.specs.Frames.{FrameParts, FitsFrame, IsFrame, head_of, first_octet_of, mode_of}
-use Rattle.mode6_frame.specs.Items.{Slot, Blank, Named, IsSlot, slot_octets, slot_items, closed_octets, items_of, comma, IsItemText, IsUnlessNoMemory}
+use Rattle.mode6_frame.specs.Items.{Slot, Blank, Named, IsSlot, slot_octets, slot_items, closed_octets, items_of, comma, IsItemText}
 use Rattle.mode6_frame.specs.Refusals.{IsRefusedAt, refused_nowhere}
 use Rattle.sys_vars.specs.declared.asked.TheConstants.{MAX_NAMES}
 use Rattle.sys_vars.specs.declared.asked.Asked.{Asked}
@@ -110,8 +112,12 @@ AreNumbersAsked-whole assoc items numbers i all are =
 pub names_room : (f : FrameParts) (items : List Item) → FitsFrame f → IsItemText f.body items → length items ≤ MAX_NAMES
 names_room f items fits is = omega (arith, item_room f.body items is, fits.body)
 
+-- items that a reader answers
+abbrev as_read : List Item → Result (List Item) ItemFault
+as_read items = Ok items
+
 -- where items are read, they are the ones, whatever memory is wanting for
-pub unless_no_memory : (items others : List Item) → IsUnlessNoMemory (Ok items) (Ok others) → items ≡ others
+pub unless_no_memory : (items others : List Item) → (as_read items ≡ as_read others) ⊎ (as_read items ≡ Err NoMemory) → items ≡ others
 unless_no_memory items others (inl same) = cc
 unless_no_memory items others (inr wanting) = absurd cc
 

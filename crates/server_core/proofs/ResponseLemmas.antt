@@ -85,7 +85,7 @@ IsGivable-answer keys false epoch gram response same short =
 pub IsGivable-response : (s : ServerState) (context : Context) (octets : List ℕ) (from : Addr) (keys : List Key) (class : Class) (response : Response) → IsClass octets from keys context class → response ≡ response_of s context class → IsShortResponse response → IsGivable keys response
 IsGivable-response s context octets from keys (SilentClass why) response is same short = subst (IsGivable keys) (sym same) tt
 IsGivable-response s context octets from keys (TimeClass ask) response is same short =
-    let has : HasKey keys ask.auth = subst (HasKey keys) (sym is.is.auth_is) (HasKey-shown keys octets is.trailer is.auth is.shown) in
+    let has : HasKey keys ask.auth = subst (HasKey keys) (sym is.is.auth_is) (HasKey-shown keys octets is.packet.trailer is.judged.auth is.packet.shown) in
     subst (IsGivable keys) (sym same) (IsGivable-verdict keys ask (arrival_verdict s.published s.limits s.rows s.stamp ask context.moment) has)
 IsGivable-response s context octets from keys (LookClass asked) response is same short =
     IsGivable-answer keys (is_refused s.published asked) s.published.epoch (gram_of s.published asked) response same short

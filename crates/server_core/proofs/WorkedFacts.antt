@@ -1,12 +1,12 @@
 -- The numbers of the server, and each threshold from both sides. They are our own rules, but for those of RFC 5905.
-use Rattle.std.proofs.Common.{◌≡◌, ◌-◌, ◌^◌, true, false, Some, None, [], codes, refl, lit≤}
+use Rattle.std.proofs.Common.{◌≡◌, ◌-◌, ◌^◌, true, false, Some, None, [], ◌∷◌, negsuc, codes, refl, lit≤}
 use Rattle.access_rules.specs.declared.flags.TheConstants.{NOSERVE, NOTRUST, VERSION}
 use Rattle.mac_keys.specs.declared.checking.Auth.TheVariants.{Good, Bad}
 use Rattle.server_core.specs.declared.kiss.TheConstants.{RATE}
 use Rattle.server_core.specs.declared.op.Op.TheVariants.{Arrive}
 use Rattle.server_core.specs.declared.op.TheConstants.{MAX_ENTRIES, MAX_PUBLICATIONS}
 use Rattle.server_core.specs.declared.step.StepFault.TheVariants.{ClockEnd}
-use Rattle.server_core.specs.Reply.{shown_stratum}
+use Rattle.server_core.specs.Reply.{rate_header, shown_stratum}
 use Rattle.server_core.specs.States.{refusal_of}
 use Rattle.server_core.specs.Verdicts.{drawn, is_denied, is_due}
 use Rattle.server_core.proofs.StandardFacts.{ask}
@@ -19,6 +19,19 @@ MAX_PUBLICATIONS-is = refl
 
 RATE-is : RATE ≡ codes "RATE"
 RATE-is = refl
+
+-- the kiss code says that no time is known, with a precision of 2^-20 seconds
+kiss_leap : (rate_header ask).leap ≡ 3
+unfolding rate_header
+kiss_leap = refl
+
+kiss_precision : (rate_header ask).precision ≡ negsuc 19
+unfolding rate_header
+kiss_precision = refl
+
+kiss_code : (rate_header ask).refid ≡ 82 ∷ 65 ∷ 84 ∷ 69 ∷ []
+unfolding rate_header
+kiss_code = refl
 
 -- the last stamp but one may be followed by another, and the last may not
 before_the_last_stamp : refusal_of [] (2 ^ 64 - 2) (Arrive ask 0) ≡ None

@@ -7,12 +7,12 @@ use Rattle.ntp_packet.specs.declared.packet.Header.{Header}
 use Rattle.ntp_packet.specs.declared.packet.PacketFault.{PacketFault}
 use Rattle.ntp_packet.specs.declared.packet.PacketFault.TheVariants.{Short, BadVersion, BadMode}
 use Rattle.ntp_packet.specs.FirstOctet.{mode_of}
-use Rattle.ntp_packet.specs.Packet.{IsPacket, fault_of}
-use Rattle.ntp_trailer.specs.declared.parts.Trailer.{Trailer as FieldsAndMac}
 use Rattle.ntp_trailer.specs.declared.parts.TrailerFault.{TrailerFault}
 use Rattle.ntp_trailer.specs.declared.parts.TrailerFault.TheVariants.{Ragged, FieldShort, FieldLong, BadRemainder}
-use Rattle.ntp_trailer.specs.Trailers.{HasTrailer, IsRefused}
-use Rattle.ntp_trailer.specs.Authentic.{IsAuth}
+use Rattle.ntp_trailer.specs.declared.packet.JudgedPacket.{JudgedPacket}
+use Rattle.ntp_trailer.specs.declared.packet.ReadFault.{ReadFault}
+use Rattle.ntp_trailer.specs.declared.packet.ReadFault.TheVariants.{BadHeader, BadTrailer}
+use Rattle.ntp_trailer.specs.Packets.{IsJudgedPacket, IsUnreadable}
 use Rattle.mode6_frame.specs.declared.message.FrameFault.{FrameFault}
 use Rattle.mode6_frame.specs.Frames.{FrameParts, IsFrame, frame_fault_of}
 use Rattle.sys_vars.specs.declared.context.Context.{Context}
@@ -37,10 +37,10 @@ trailer_number FieldShort = 2
 trailer_number FieldLong = 3
 trailer_number BadRemainder = 4
 
--- the octets begin with a client's header
-pub record IsClientPacket (octets : List ℕ) (h : Header) : Type 0 where
-  pub packet : IsPacket octets h
-  pub client : mode_of octets ≡ MODE_CLIENT
+-- why octets that are no packet are not heard
+abbrev pub unheard_by : ReadFault → Unheard
+unheard_by (BadHeader fault) = Packet (packet_number fault)
+unheard_by (BadTrailer fault) = Trailer (trailer_number fault)
 
 -- what a request says that its reply depends on, and what its MAC shows
 pub record IsAskOf (h : Header) (from : Addr) (auth : Auth) (ask : Ask) : Type 0 where
@@ -50,25 +50,22 @@ pub record IsAskOf (h : Header) (from : Addr) (auth : Auth) (ask : Ask) : Type 0
   pub transmit_is : ask.transmit ≡ h.transmit
   pub auth_is : ask.auth ≡ auth
 
--- a client's request is a header, extension fields and a MAC, end to end, or a header alone
+-- a client's request is a packet of its mode: a header, extension fields and a MAC, end to end, or a header alone
 pub record IsTimeRequest (octets : List ℕ) (from : Addr) (keys : List Key) (ask : Ask) : Type 0 where
-  pub header : Header
-  pub trailer : FieldsAndMac
-  pub auth : Auth
-  pub packet : IsClientPacket octets header
-  pub follows : HasTrailer octets trailer
-  pub shown : IsAuth keys octets trailer auth
-  pub is : IsAskOf header from auth ask
+  pub judged : JudgedPacket
+  pub packet : IsJudgedPacket keys octets judged
+  pub client : mode_of octets ≡ MODE_CLIENT
+  pub is : IsAskOf judged.header from judged.auth ask
 
 -- why a datagram is not heard
 abbrev pub IsUnheard : List ℕ → Unheard → Type 0
 IsUnheard octets (Packet number) =
     ((octets ≡ []) × (number ≡ 1))
     ⊎ ((mode_of octets ≡ MODE_CLIENT)
-    × ((fault : PacketFault) × (fault_of octets ≡ Some fault) × (number ≡ packet_number fault)))
+    × ((fault : PacketFault) × IsUnreadable octets (BadHeader fault) × (number ≡ packet_number fault)))
 IsUnheard octets (Trailer number) =
-    ((h : Header) × IsClientPacket octets h)
-    × ((fault : TrailerFault) × IsRefused octets fault × (number ≡ trailer_number fault))
+    (mode_of octets ≡ MODE_CLIENT)
+    × ((fault : TrailerFault) × IsUnreadable octets (BadTrailer fault) × (number ≡ trailer_number fault))
 IsUnheard octets (Frame number) =
     (mode_of octets ≡ MODE_CONTROL)
     × ((fault : FrameFault) × (frame_fault_of octets ≡ Some fault) × (number ≡ frame_number fault))

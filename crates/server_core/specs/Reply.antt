@@ -1,5 +1,5 @@
 -- The reply to a client's request (RFC 5905, sections 7.3 and 9.2; the rounding is our own rule).
-use Rattle.std.specs.Prelude.{◌≡◌, ◌⊎◌, ℕ, ◌+◌, ◌-◌, ◌==◌, min, max, if◌then◌else◌, List, [], ◌++◌, replicate, Option, None, Some, IsSome, codes, negsuc}
+use Rattle.std.specs.Prelude.{◌≡◌, ◌⊎◌, ℕ, ◌+◌, ◌-◌, ◌==◌, min, max, if◌then◌else◌, List, [], ◌++◌, replicate, Option, None, Some, IsSome}
 use Rattle.fixed_time.specs.Time.{to_short_of, drift_of}
 use Rattle.fixed_time.specs.declared.time.TheConstants.{PHI, MAX_DISPERSION}
 use Rattle.discipline.specs.SoftClock.{clock_time}
@@ -15,9 +15,11 @@ use Rattle.ntp_trailer.specs.declared.parts.Trailer.{Trailer as FieldsAndMac}
 use Rattle.ntp_trailer.specs.Trailers.{HasTrailer}
 use Rattle.ntp_trailer.specs.Authentic.{IsAuth, spelled_mac}
 use Rattle.sys_vars.specs.declared.system.System.{System}
+use Rattle.sys_vars.specs.declared.system.TheConstants.{PRECISION}
 use Rattle.server_core.specs.declared.class.Ask.{Ask}
+use Rattle.server_core.specs.declared.kiss.TheConstants.{RATE}
 use Rattle.server_core.specs.declared.reply.Basis.{Basis}
-use Rattle.ntp_packet.specs.declared.leap_version_mode.TheConstants.{MODE_SERVER}
+use Rattle.ntp_packet.specs.declared.leap_version_mode.TheConstants.{LEAP_UNSYNCHRONIZED, MODE_SERVER}
 use Rattle.ntp_packet.specs.declared.packet.TheConstants.{UNSYNCHRONIZED_STRATUM}
 
 -- the stratum as a packet has it: 0 for a server that is not synchronized
@@ -93,15 +95,15 @@ pub record Shows (keys : List Key) (auth : Auth) (octets : List ℕ) : Type 0 wh
 -- time, and gives back the request's own transmit time throughout (our own rule).
 unfoldable pub rate_header : Ask → Header
 rate_header ask = record {
-  leap = 3;
+  leap = LEAP_UNSYNCHRONIZED;
   version = ask.version;
   mode = MODE_SERVER;
   stratum = 0;
   poll = ask.poll;
-  precision = negsuc 19;
+  precision = PRECISION;
   root_delay = record { 0 = 0 };
   root_disp = record { 0 = 0 };
-  refid = codes "RATE";
+  refid = RATE;
   reference = record { 0 = 0 };
   origin = ask.transmit;
   receive = ask.transmit;

@@ -1,14 +1,14 @@
 ghost use Rattle.std.specs.Prelude.{◌≡◌, ◌≤◌, ◌<◌, ◌-◌, ◌^◌, true, false, IfOk, OnOk, OnErr, IsSome, None};
 ghost use Rattle.access_rules.specs.Flags.{has_flag};
+ghost use Rattle.recency.specs.Arrivals.{touched_row};
 ghost use Rattle.recency.specs.Rows.{AreBefore, AreRows, IsClientList, find_row};
 ghost use Rattle.server_core.specs.Verdicts.{arrival_rows, arrival_stamp, arrival_verdict, flags_on, is_ignored, rows_at, rows_told, verdict_at, visit_of};
 
 use crate::class::Ask;
 use crate::verdict::{Verdict, judge};
 use access_rules::{IGNORE, LIMITED, flags_for, has_flag};
-use net_addr::Ip;
 use ntp_packet::MODE_CLIENT;
-use recency::{Recency, Row, Steps, Visit};
+use recency::{Recency, Row, Steps, Touched, Visit};
 use std::alloc::AllocError;
 use std::sync::ledger::{Blank, Ledger};
 use sys_vars::Record;
@@ -77,27 +77,26 @@ fn touch_and_judge<R: Recency, L: Ledger>(
     ensures kept { AreRows (R.limits list.new) (R.rows list.new) }
 {
     let mut steps = Steps::<L>::begin(blank);
-    list.touch(&visit_of(rec, flags, ask), stamp, &mut steps)?;
-    let row = row_to_judge(list, flags, &ask.from.ip, &mut steps);
+    let touched = list.touch(&visit_of(rec, flags, ask), stamp, &mut steps)?;
+    let row = row_to_judge(list, flags, &touched);
     let verdict = judge(rec, flags, ask, stamp, row);
     tell(list, &verdict, ask, stamp);
     Ok(verdict)
 }
 
-/// The row of a client whose rate is limited. That of another is not wanted.
-fn row_to_judge<R: Recency, L: Ledger>(
-    list: &R,
-    flags: u16,
-    ip: &Ip,
-    steps: &mut Steps<L>,
-) -> Option<Row>
-    ensures limited { has_flag flags LIMITED ≡ true → result ≡ find_row (R.rows list.now) ip.now }
+/// The row of a client whose rate is limited, once its request has touched the list. That of another
+/// is not wanted.
+fn row_to_judge<R: Recency>(list: &R, flags: u16, touched: &Touched) -> Option<Row>
+    ensures limited { has_flag flags LIMITED ≡ true
+        → result ≡ touched_row touched.now (R.rows list.now) }
     ensures other { has_flag flags LIMITED ≡ false → result ≡ None }
 {
-    if has_flag(flags, LIMITED) {
-        list.find(ip, steps)
-    } else {
-        None
+    if !has_flag(flags, LIMITED) {
+        return None;
+    }
+    match touched {
+        Touched::Known | Touched::Added | Touched::Replaced(_) => list.newest(),
+        Touched::Untracked => None,
     }
 }
 

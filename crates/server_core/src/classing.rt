@@ -1,9 +1,8 @@
 ghost use Rattle.std.specs.Prelude.{◌≡◌, ◌≢◌, ◌≤◌, ◌<◌, length, [], IfOk, IfErr};
 ghost use Rattle.ntp_packet.specs.FirstOctet.{mode_of};
-ghost use Rattle.ntp_packet.specs.Packet.{IsPacket};
 ghost use Rattle.sys_vars.specs.declared.context.Context.{Context};
 ghost use Rattle.server_core.specs.declared.class.Class.{Class};
-ghost use Rattle.server_core.specs.Class.{IsClass, IsAskOf, packet_number, trailer_number};
+ghost use Rattle.server_core.specs.Class.{IsClass, IsAskOf, packet_number, trailer_number, unheard_by};
 ghost use Rattle.server_core.specs.Control.{IsReadRequest};
 
 use crate::class::{Ask, Class, Unheard};
@@ -11,7 +10,7 @@ use crate::control::classify_control;
 use mac_keys::{Auth, KeyTable};
 use net_addr::Addr;
 use ntp_packet::{Header, MODE_CLIENT, MODE_CONTROL, PacketFault, mode_in};
-use ntp_trailer::{TrailerFault, auth, split};
+use ntp_trailer::{ReadFault, TrailerFault, judge_packet};
 use std::alloc::{AllocError, Global};
 use sys_vars::Context;
 
@@ -47,12 +46,19 @@ fn classify_client(bytes: &[u8], from: &Addr, keys: &KeyTable) -> Class
     ensures only { (context : Context) → (class : Class)
         → IsClass bytes.now from.now keys.now context class → result ≡ class }
 {
-    match ntp_packet::read(bytes) {
-        Err(fault) => Class::Silent(Unheard::Packet(packet_number(fault))),
-        Ok(header) => match split(bytes) {
-            Err(fault) => Class::Silent(Unheard::Trailer(trailer_number(fault))),
-            Ok(trailer) => Class::Time(ask_of(&header, from, auth(keys, bytes, &trailer))),
-        },
+    match judge_packet(keys, bytes) {
+        Err(fault) => Class::Silent(unheard_by(fault)),
+        Ok(judged) => Class::Time(ask_of(&judged.header, from, judged.auth)),
+    }
+}
+
+/// Why octets that are no packet are not heard.
+fn unheard_by(fault: ReadFault) -> Unheard
+    ensures { result ≡ unheard_by fault }
+{
+    match fault {
+        ReadFault::BadHeader(fault) => Unheard::Packet(packet_number(fault)),
+        ReadFault::BadTrailer(fault) => Unheard::Trailer(trailer_number(fault)),
     }
 }
 

@@ -1,4 +1,4 @@
-ghost use Rattle.std.specs.Prelude.{◌≡◌, ◌≤◌, ◌<◌, Some, List, [], ◌∷◌, ◌++◌, length, IfOk, slice_get, vec_len, vec_capacity};
+ghost use Rattle.std.specs.Prelude.{◌≡◌, ◌≤◌, ◌<◌, Some, List, [], ◌∷◌, ◌++◌, length, IfOk, slice_get};
 ghost use Rattle.server_core.specs.declared.op.Op.{Op};
 ghost use Rattle.server_core.specs.States.{publications_in, record_of, stop_in};
 ghost use Rattle.server_core.specs.Journals.{CanTake, IsIndexed, published_in};
@@ -111,18 +111,8 @@ impl Journal {
     {
         let place = self.len();
         self.index = index_with(self.index, &op, place);
-        append(&mut self.ops, op);
+        self.ops.push_reserved(op);
     }
-}
-
-/// Adds an operation at the end, within the room that there is.
-fn append(ops: &mut Vec<Op>, op: Op)
-    requires { vec_len ops.old < vec_capacity ops.old }
-    ensures items { ops.new.items ≡ ops.old.items ++ op ∷ [] }
-    ensures capacity { vec_capacity ops.old ≤ vec_capacity ops.new }
-{
-    let is_pushed = ops.push(op).is_ok();
-    prove!(is_pushed);
 }
 
 /// What a journal of no operations keeps.

@@ -4,10 +4,11 @@ ghost use Rattle.server_core.specs.Reply.{rate_header, rate_reply_of};
 use crate::class::Ask;
 use edge_traits::Octets;
 use fixed_time::{Ntp64, Short};
-use ntp_packet::{HEADER_LEN, Header, MODE_SERVER};
+use ntp_packet::{HEADER_LEN, Header, KISS_CODE_LEN, LEAP_UNSYNCHRONIZED, MODE_SERVER};
+use sys_vars::PRECISION;
 
 /// The kiss code RATE: the client is to slow down (RFC 5905, section 7.4).
-pub const RATE: [u8; 4] = *b"RATE";
+pub const RATE: [u8; KISS_CODE_LEN] = *b"RATE";
 
 /// The reply to a client that is over its rate: the kiss code RATE, the request's transmit time in
 /// place of each time, and no MAC.
@@ -38,12 +39,12 @@ fn rate_header(ask: &Ask) -> Header
     ensures mode { result.mode ≡ MODE_SERVER }
 {
     Header {
-        leap: 3,
+        leap: LEAP_UNSYNCHRONIZED,
         version: ask.version,
         mode: MODE_SERVER,
         stratum: 0,
         poll: ask.poll,
-        precision: -20,
+        precision: PRECISION,
         root_delay: Short(0),
         root_disp: Short(0),
         refid: RATE,

@@ -1,4 +1,4 @@
-ghost use Rattle.std.specs.Prelude.{◌≡◌, ◌<◌, ◌≤◌, ◌++◌, ◌∷◌, [], Some, length, slice_get, IfOk, OnErr, vec_len, vec_capacity};
+ghost use Rattle.std.specs.Prelude.{◌≡◌, ◌<◌, ◌++◌, Some, length, slice_get, IfOk, OnErr};
 ghost use Rattle.server_core.specs.Histories.{AreSteps, accepted, state_after_all};
 
 use crate::book::Book;
@@ -53,17 +53,7 @@ pub fn perform(alloc: Global, book: &mut Book, ops: Vec<Op>) -> Result<Answers, 
 {
     let mut answers = Vec::with_capacity(alloc, ops.len())?;
     for op in ops {
-        append(&mut answers, book.step(op));
+        answers.push_reserved(book.step(op));
     }
     Ok(Answers { answers })
-}
-
-/// Adds an answer at the end, within the room that there is.
-fn append(answers: &mut Vec<Result<Reply, StepFault>>, answer: Result<Reply, StepFault>)
-    requires { vec_len answers.old < vec_capacity answers.old }
-    ensures items { answers.new.items ≡ answers.old.items ++ answer ∷ [] }
-    ensures capacity { vec_capacity answers.old ≤ vec_capacity answers.new }
-{
-    let is_added = answers.push(answer).is_ok();
-    prove!(is_added);
 }

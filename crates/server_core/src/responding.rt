@@ -58,11 +58,7 @@ pub fn respond(
 }
 
 /// Takes a datagram of this class to the server, and answers the response to it.
-fn respond_to_class(
-    book: &mut Book,
-    context: &Context,
-    class: Class,
-) -> Result<Response, StepFault>
+fn respond_to_class(book: &mut Book, context: &Context, class: Class) -> Result<Response, StepFault>
     ensures response { IfOk result (λ response.
         response ≡ response_of book.old.state context.now class) }
     ensures short { IfOk result IsShortResponse }

@@ -9,7 +9,7 @@ loop-i-init c =
 
 pub loop-i-preserved : goal.loop-i-preserved
 loop-i-preserved c =
-    let number = subst (λ (name : List ℕ). IsNumberAsked c.args.assoc name c.number_asked.result) c.as_slice.ensures c.number_asked.ensures in
+    let number = subst (λ (name : List ℕ). IsNumberAsked c.args.assoc name c.number_asked.result) c.as_slice.ensures.value c.number_asked.ensures in
     let more = AreNumbersAsked-more _ _ _ c.loop-i.i c.get.result.now _ (omega (arith, c.loop-i-test.true, c.len-i-end.ensures)) c.get.ensures c.loop-i.invariant number in
     subst (λ (numbers : List ℕ). AreNumbersAsked c.args.assoc (take (c.loop-i.i + 1) c.args.items.now) numbers) (sym c.in_ok-push.ensures.items) more
 

@@ -13,8 +13,8 @@ loop-op-init c =
       room = omega (arith, ap length none, ap length gives.0, c.args.ops.ok.0, c.len.ensures, c.in_ok-answers.ensures.capacity);
     }
 
-pub append-requires : goal.append-requires
-append-requires c =
+pub push_reserved-requires : goal.push_reserved-requires
+push_reserved-requires c =
     omega (arith, c.loop-op.answers.ok.0, ap length c.in-Some.ensures.steps.0, c.loop-op.invariant.room)
 
 pub loop-op-preserved : goal.loop-op-preserved
@@ -23,9 +23,9 @@ loop-op-preserved c =
     let step = IsStep-from _ _ _ c.step.result ensures.answered ensures.next ensures.entered ensures.kept in
     let more = AreSteps-append _ _ _ _ _ _ _ c.loop-op.invariant.steps step in
     record {
-      steps = rw c.append.ensures.items more;
+      steps = rw c.push_reserved.ensures.items more;
       rest = c.loop-op.invariant.rest ∙ ap (λ (left : List Op). c.loop-op.yielded ++ left) c.in-Some.ensures.steps.0 ∙ sym (append_assoc c.loop-op.yielded (c.in-Some.op ∷ []) _);
-      room = omega (arith, ap length c.in-Some.ensures.steps.0, ap length c.append.ensures.items, length-one c.loop-op.answers.items c.step.result, c.append.ensures.capacity, c.loop-op.invariant.room);
+      room = omega (arith, ap length c.in-Some.ensures.steps.0, ap length c.push_reserved.ensures.items, length-one c.loop-op.answers.items c.step.result, c.push_reserved.ensures.capacity, c.loop-op.invariant.room);
     }
 
 pub returns-clause-steps : goal.returns-clause-steps

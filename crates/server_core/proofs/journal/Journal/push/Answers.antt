@@ -7,6 +7,6 @@ index_with-self-inside-requires c = publications-at_most _ _ _ c.self.invariant.
 
 pub invariant_of-self : goal.invariant_of-self
 invariant_of-self c = (
-  IsIndexed-pushed _ _ _ _ c.args.op _ _ c.self.invariant.0 c.self.view_is c.requires c.index_with-self-inside.ensures c.append.ensures.items c.len-place.ensures,
-  omega (arith, c.append.ensures.capacity, c.self.invariant.1),
+  IsIndexed-pushed _ _ _ _ c.args.op _ _ c.self.invariant.0 c.self.view_is c.requires c.index_with-self-inside.ensures c.push_reserved.ensures.items c.len-place.ensures,
+  omega (arith, c.push_reserved.ensures.capacity, c.self.invariant.1),
 )
