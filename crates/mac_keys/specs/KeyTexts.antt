@@ -33,7 +33,7 @@ key_grammar = record {
   refuses = IsUnadmitted;
 }
 
--- the keys that a text spells
+-- the keys that a text spells: its lines, taken one after another into a table without keys, give them
 abbrev pub IsKeyText : List ℕ → List Key → Type 0
 IsKeyText text keys = IsAfter key_grammar [] (lines_as_words text) keys
 

@@ -26,7 +26,7 @@ pub record FrameParts : Type 0 where
   pub offset : ℕ
   pub body : List ℕ
 
--- what a frame says
+-- a frame by its values
 abbrev pub parts_of : Frame → FrameParts
 parts_of f = record {
   leap = f.leap;

@@ -4,7 +4,7 @@ use Rattle.std.specs.Prelude.{◌≡◌, ℕ, ◌<◌, Bool, true, not, ◌==◌
 use Rattle.std.specs.List.{AllByRecursion}
 use Rattle.std.specs.Int.{is_in_range}
 use Rattle.refusals.specs.Refusals.{IsRefusedAt}
-use Rattle.refusals.specs.Told.{told_number, IsUnless}
+use Rattle.refusals.specs.Told.{told_number}
 use Rattle.mode6_frame.specs.declared.items.Item.{Item}
 use Rattle.mode6_frame.specs.declared.items.ItemFault.{ItemFault}
 use Rattle.mode6_frame.specs.declared.items.ItemFault.TheVariants.{At, NoMemory}
@@ -72,11 +72,3 @@ pub record IsItemText (text : List ℕ) (items : List Item) : Type 0 where
 abbrev pub IsDue : List ℕ → ItemFault → Type 0
 IsDue text (At place) = (octets : ℕ) × IsRefusedAt IsItemText text octets × (place ≡ told_number octets)
 IsDue text NoMemory = Unit {0}
-
--- a place as the fault tells it
-abbrev pub told_place : ℕ → ℕ
-told_place = told_number
-
--- the answer is this one, or memory was wanting
-abbrev pub IsUnlessNoMemory : Result (List Item) ItemFault → Result (List Item) ItemFault → Type 0
-IsUnlessNoMemory = IsUnless NoMemory

@@ -15,9 +15,7 @@ pub mod prefix;
 pub mod prefix_reader;
 pub mod reader;
 
-pub use addr::{
-    Addr, Ip, bits, is_same_addr, is_same_family, is_same_ip, is_same_ip as same_ip, number,
-};
+pub use addr::{Addr, Ip, bits, is_same_addr, is_same_family, is_same_ip, number};
 pub use addr_text::{AddrText, write_ip, write_text};
 pub use ip_reader::read_ip;
 pub use masks::{mask_length, prefix_of};

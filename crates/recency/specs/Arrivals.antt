@@ -85,11 +85,11 @@ abbrev pub rows_by : Option Row → Limits → List Row → Visit → ℕ → Li
 rows_by None limits rows visit stamp = admitted (admission limits rows stamp) rows (new_row visit stamp)
 rows_by (Some row) limits rows visit stamp = others rows visit.ip ++ row_after row visit stamp ∷ []
 
--- the answer to an arrival
+-- the answer to an arrival: a listed client is known, and for another one the first rule that applies decides
 abbrev pub touch_answer : Limits → List Row → Visit → ℕ → Touched
 touch_answer limits rows visit stamp = answer_by (find_row rows visit.ip) limits rows stamp
 
--- the rows after an arrival
+-- the rows after an arrival: a listed client's row stands last now, and so does a new row, for which the oldest one may go
 abbrev pub touched_rows : Limits → List Row → Visit → ℕ → List Row
 touched_rows limits rows visit stamp = rows_by (find_row rows visit.ip) limits rows visit stamp
 

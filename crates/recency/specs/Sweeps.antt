@@ -8,7 +8,7 @@ use Rattle.recency.specs.declared.row.Row.{Row}
 abbrev pub is_dropped : Limits → Row → ℕ → ℕ → Bool
 is_dropped limits row count moment = nat_lt limits.mindepth count && nat_le limits.maxage (moment - row.last)
 
--- the rows without the oldest ones that a sweep drops, one after another
+-- the rows without the oldest ones, as long as there are more than mindepth and the oldest has an age of maxage
 abbrev pub swept_rows : Limits → List Row → ℕ → List Row
 swept_rows limits [] moment = []
 swept_rows limits (oldest ∷ rows) moment =

@@ -6,7 +6,7 @@ use Rattle.std.proofs.lemmas.Bool.Decides.{nat_tests}
 use Rattle.mode6_frame.specs.declared.errors.TheConstants.{BAD_ASSOCIATION, BAD_NAME}
 use Rattle.mode6_frame.specs.declared.items.Item.{Item}
 use Rattle.mode6_frame.specs.declared.message.Head.{Head}
-use Rattle.mode6_frame.specs.Items.{told_place}
+use Rattle.mode6_frame.specs.Told.{told_number}
 use Rattle.sys_vars.specs.declared.published.Record.{Record}
 use Rattle.sys_vars.specs.declared.variables.VarsFault.{VarsFault}
 use Rattle.sys_vars.specs.declared.variables.VarsFault.TheVariants.{UnknownAssociation, UnknownName, NoMemory}
@@ -24,21 +24,21 @@ list_any-first p (x ∷ xs) =
     ]
 
 -- where nothing is refused
-vars_fault_of-None : (known any : Bool) (n : ℕ) → cond (not known) (Some UnknownAssociation) (option_map (λ place. UnknownName (told_place place)) (cond any (Some n) None)) ≡ None
+vars_fault_of-None : (known any : Bool) (n : ℕ) → cond (not known) (Some UnknownAssociation) (option_map (λ place. UnknownName (told_number place)) (cond any (Some n) None)) ≡ None
     → (known ≡ true) × (any ≡ false)
 vars_fault_of-None true true n is = cc
 vars_fault_of-None true false n is = (refl, refl)
 vars_fault_of-None false any n is = cc
 
 -- where the association is unknown
-vars_fault_of-association : (known any : Bool) (n : ℕ) → cond (not known) (Some UnknownAssociation) (option_map (λ place. UnknownName (told_place place)) (cond any (Some n) None)) ≡ Some UnknownAssociation
+vars_fault_of-association : (known any : Bool) (n : ℕ) → cond (not known) (Some UnknownAssociation) (option_map (λ place. UnknownName (told_number place)) (cond any (Some n) None)) ≡ Some UnknownAssociation
     → known ≡ false
 vars_fault_of-association true true n is = cc
 vars_fault_of-association true false n is = cc
 vars_fault_of-association false any n is = refl
 
 -- where a name is
-vars_fault_of-name : (known any : Bool) (n place : ℕ) → cond (not known) (Some UnknownAssociation) (option_map (λ place. UnknownName (told_place place)) (cond any (Some n) None)) ≡ Some (UnknownName place)
+vars_fault_of-name : (known any : Bool) (n place : ℕ) → cond (not known) (Some UnknownAssociation) (option_map (λ place. UnknownName (told_number place)) (cond any (Some n) None)) ≡ Some (UnknownName place)
     → (known ≡ true) × (any ≡ true)
 vars_fault_of-name true true n place is = (refl, refl)
 vars_fault_of-name true false n place is = cc

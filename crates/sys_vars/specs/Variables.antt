@@ -6,7 +6,7 @@ use Rattle.std.specs.List.{list_all, before_first}
 use Rattle.std.specs.Net.Text.{ipv4_text}
 use Rattle.hex.specs.Hex.{encode_lower}
 use Rattle.mode6_frame.specs.declared.items.Item.{Item}
-use Rattle.mode6_frame.specs.Items.{told_place}
+use Rattle.mode6_frame.specs.Told.{told_number}
 use Rattle.ntp_packet.specs.declared.packet.TheConstants.{MAX_SYNCHRONIZED_STRATUM}
 use Rattle.sys_vars.specs.declared.names.TheConstants.{LEAP, STRATUM, REFID}
 use Rattle.sys_vars.specs.declared.system.System.{System}
@@ -63,4 +63,4 @@ is_unknown number = is_none (name_of number)
 abbrev pub vars_fault_of : ℕ → List ℕ → Option VarsFault
 vars_fault_of assoc names =
     if not (assoc == 0) then Some UnknownAssociation
-    else option_map (λ place. UnknownName (told_place place)) (position is_unknown names)
+    else option_map (λ place. UnknownName (told_number place)) (position is_unknown names)

@@ -1,6 +1,6 @@
 ghost use Rattle.std.specs.Prelude.{◌≡◌, ◌++◌, IfOk, OnOk, IsOkUnless, MatchOption, decimal, position, filter_map, Some};
 ghost use Rattle.std.specs.Option.{option_to_list};
-ghost use Rattle.mode6_frame.specs.Items.{told_place};
+ghost use Rattle.mode6_frame.specs.Told.{told_number};
 ghost use Rattle.sys_vars.specs.Variables.{asked_numbers, is_unknown, variable_of, variables_of, vars_fault_of};
 
 use crate::names::{LEAP, REFID, STRATUM};
@@ -55,7 +55,7 @@ fn first_fault(assoc: u16, names: &[u8]) -> Option<VarsFault>
 
 /// The fault of an unknown name at a place.
 fn unknown_at(place: usize) -> VarsFault
-    ensures { result ≡ VarsFault.UnknownName (told_place place) }
+    ensures { result ≡ VarsFault.UnknownName (told_number place) }
 {
     VarsFault::UnknownName {
         place: place.min(u32::MAX as usize) as u32,
