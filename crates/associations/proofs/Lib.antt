@@ -1,4 +1,6 @@
+pub mod AnswerLemmas
 pub mod ChoosingLemmas
+pub mod JudgingLemmas
 pub mod NumberLemmas
 pub mod ReadingLemmas
 pub mod ShowingLemmas

@@ -1,20 +1,42 @@
--- Worked samples of replies, and of the words about a server and about the system.
+-- The constants, worked samples of replies, and of the words about a server and about the system.
 use Rattle.std.proofs.Common.{◌≡◌, ℕ, ◌+◌, ◌-◌, ◌*◌, ◌^◌, [], ◌∷◌, pos, negsuc, neg_ℤ, true, false, Some, None, replicate, lit≤, refl}
 use Rattle.access_rules.specs.declared.servers.ServerLine.{ServerLine}
+use Rattle.clock_filter.specs.declared.estimates.Estimate.{Estimate}
 use Rattle.discipline.specs.declared.state.State.TheVariants.{Nset, Spik}
 use Rattle.fixed_time.specs.declared.time.Ntp64.{Ntp64}
 use Rattle.net_addr.specs.declared.addr.Ip.TheVariants.{V4}
 use Rattle.ntp_packet.specs.declared.packet.Header.{Header}
 use Rattle.sys_vars.specs.Opening.{opening_system}
 use Rattle.associations.specs.Associations.{opened, reach_after_request, runs_empty}
-use Rattle.associations.specs.Candidates.{candidate_of}
+use Rattle.associations.specs.Candidates.{candidate_of, near_candidate}
 use Rattle.associations.specs.Judging.{root_distance_of}
 use Rattle.associations.specs.Samples.{held_delay, lead_by, resolution_of, round_trip_by, sample_by, waited_for}
 use Rattle.associations.specs.Accepting.{reach_after_reply}
 use Rattle.associations.specs.Systems.{in_state, leap_below, system_event, unselected, values_of}
 use Rattle.associations.specs.DueTimes.{moment_after}
+use Rattle.associations.specs.declared.asking.TheConstants.{MAX_REQUEST_LEN}
 use Rattle.associations.specs.declared.association.Association.{Association}
+use Rattle.associations.specs.declared.candidates.TheConstants.{MAX_DISTANCE}
+use Rattle.associations.specs.declared.sampling.TheConstants.{MAX_DELAY, RESOLUTION}
+use Rattle.sys_vars.specs.declared.system.TheConstants.{PRECISION}
 use Rattle.std.specs.Prelude.{int_div}
+
+-- 1.5 seconds
+MAX_DISTANCE-is : MAX_DISTANCE ≡ 6442450944
+MAX_DISTANCE-is = refl
+
+RESOLUTION-is : RESOLUTION ≡ 4096
+RESOLUTION-is = refl
+
+-- our precision and our resolution are one
+PRECISION-is : resolution_of PRECISION ≡ RESOLUTION
+PRECISION-is = refl
+
+MAX_DELAY-is : MAX_DELAY ≡ 2 ^ 62
+MAX_DELAY-is = refl
+
+MAX_REQUEST_LEN-is : MAX_REQUEST_LEN ≡ 48 + 4 + 20
+MAX_REQUEST_LEN-is = refl
 
 -- a reply of stratum 2 with these origin, receive and transmit timestamps
 abbrev reply : ℕ → ℕ → ℕ → Header
@@ -84,8 +106,8 @@ finest : resolution_of (negsuc 127) ≡ 1
 finest = refl
 
 -- a root delay of 32 seconds alone is a root distance of 16
-far : root_distance_of (record { 0 = 32 * 2 ^ 16 }) (record { 0 = 0 }) ≡ 16 * 2 ^ 32
-far = refl
+far_root : root_distance_of (record { 0 = 32 * 2 ^ 16 }) (record { 0 = 0 }) ≡ 16 * 2 ^ 32
+far_root = refl
 
 -- eight requests without a reply empty the reach register, and an empty one stays so
 shifted : reach_after_request 0b10000001 ≡ 0b00000010
@@ -129,6 +151,20 @@ near = refl
 -- a dispersion of eight seconds, as after the first sample, is too far
 far_off : candidate_of (27 * 2 ^ 31) 3 (measured 2 (2 ^ 35)) ≡ None
 far_off = refl
+
+-- a unit under the threshold a server is a candidate, and at it and over it, as at 1.75 seconds, it is none
+abbrev estimate : Estimate
+estimate = record { offset = record { 0 = pos 7 }; delay = 0; disp = 0; jitter = 4096; at = 0 }
+
+just_near : near_candidate 3 (measured 2 0) estimate (3 * 2 ^ 31 - 1)
+    ≡ Some (record { peer = 3; stratum = 2; offset = record { 0 = pos 7 }; distance = 3 * 2 ^ 31 - 1; jitter = 4096 })
+just_near = refl
+
+just_far : near_candidate 3 (measured 2 0) estimate (3 * 2 ^ 31) ≡ None
+just_far = refl
+
+far : near_candidate 3 (measured 2 0) estimate (7 * 2 ^ 30) ≡ None
+far = refl
 
 -- a server that was not asked yet is no candidate
 unasked : candidate_of 0 1 (opened line) ≡ None

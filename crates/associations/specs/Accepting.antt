@@ -1,27 +1,20 @@
 -- What an accepted reply makes of an association (RFC 5905, sections 8, 9.2 and 10; RFC 9327, section 3.2).
-use Rattle.std.specs.Prelude.{ℕ, ◌*◌, ◌^◌, ◌==◌, Bool, true, false, if◌then◌else◌, Option, None, Some, is_some, Result, Ok, Err, bit_or}
+use Rattle.std.specs.Prelude.{ℕ, ◌*◌, ◌^◌, ◌==◌, Bool, if◌then◌else◌, Option, None, Some, is_some, Result, Ok, Err, bit_or}
 use Rattle.clock_filter.specs.Filtering.{FilterState, estimate_after, filter_after}
 use Rattle.clock_filter.specs.declared.estimates.Estimate.{Estimate}
 use Rattle.clock_filter.specs.declared.samples.Sample.{Sample}
 use Rattle.fixed_time.specs.declared.time.Ntp64.{Ntp64}
-use Rattle.mac_keys.specs.declared.checking.Auth.{Auth}
-use Rattle.mac_keys.specs.declared.checking.Auth.TheVariants.{Absent, Good, Bad}
+use Rattle.mac_keys.specs.Checks.{is_good}
+use Rattle.mode6_frame.specs.declared.events.TheConstants.{REACHABLE}
+use Rattle.ntp_trailer.specs.declared.packet.JudgedPacket.{JudgedPacket}
 use Rattle.associations.specs.Associations.{with_event}
 use Rattle.associations.specs.Judging.{first_fault_of, refused}
 use Rattle.associations.specs.Samples.{sample_by}
 use Rattle.associations.specs.declared.association.Association.{Association}
-use Rattle.associations.specs.declared.association.TheConstants.{REACHABLE}
 use Rattle.associations.specs.declared.judging.ReplyFault.{ReplyFault}
-use Rattle.associations.specs.declared.reading.Reply.{Reply}
-
--- the MAC is good with any key
-abbrev pub is_good : Auth → Bool
-is_good Absent = false
-is_good (Good id) = true
-is_good Bad = false
 
 -- a server with the fields of a reply's header, its times in 32.32 seconds; its transmit timestamp is the last one taken
-abbrev pub with_header : Association → Reply → Association
+abbrev pub with_header : Association → JudgedPacket → Association
 with_header server reply = record server {
   pmode = reply.header.mode;
   ppoll = reply.header.poll;
@@ -41,12 +34,12 @@ abbrev pub reach_after_reply : ℕ → ℕ
 reach_after_reply reach = bit_or reach 1
 
 -- a server with a reply that came at this destination timestamp: no request waits any more
-abbrev pub with_reply : Association → Reply → Ntp64 → Association
+abbrev pub with_reply : Association → JudgedPacket → Ntp64 → Association
 with_reply server reply destination =
     record (with_header server reply) { received = destination; pending = None; reach = reach_after_reply server.reach }
 
 -- and where the reach register was empty, the server has become reachable
-abbrev pub taken_over : Association → Reply → Ntp64 → Association
+abbrev pub taken_over : Association → JudgedPacket → Ntp64 → Association
 taken_over server reply destination =
     if server.reach == 0 then with_event REACHABLE (with_reply server reply destination) else with_reply server reply destination
 
@@ -67,20 +60,20 @@ sampled server sample moment = record server {
 }
 
 -- the association after a reply that was accepted at a moment, when our clock showed the destination timestamp
-abbrev pub accepted : Association → Reply → Ntp64 → ℕ → Association
+abbrev pub accepted : Association → JudgedPacket → Ntp64 → ℕ → Association
 accepted server reply destination moment =
     sampled (taken_over server reply destination) (sample_by reply.header destination moment) moment
 
 -- its sample gives an estimate
-abbrev pub is_fresh : Association → Reply → Ntp64 → ℕ → Bool
+abbrev pub is_fresh : Association → JudgedPacket → Ntp64 → ℕ → Bool
 is_fresh server reply destination moment = gives_estimate server.filter (sample_by reply.header destination moment) moment
 
 -- the association after a reply: refused for its first fault, or accepted
-abbrev pub judged_by : Option ReplyFault → Association → Reply → Ntp64 → ℕ → Association
+abbrev pub judged_by : Option ReplyFault → Association → JudgedPacket → Ntp64 → ℕ → Association
 judged_by None server reply destination moment = accepted server reply destination moment
 judged_by (Some fault) server reply destination moment = refused fault server
 
-abbrev pub judged : Association → Reply → Ntp64 → ℕ → Association
+abbrev pub judged : Association → JudgedPacket → Ntp64 → ℕ → Association
 judged server reply destination moment = judged_by (first_fault_of server reply) server reply destination moment
 
 -- and the verdict: the fault, or whether there is a new estimate
@@ -88,5 +81,5 @@ abbrev pub verdict_by : Option ReplyFault → Bool → Result Bool ReplyFault
 verdict_by None fresh = Ok fresh
 verdict_by (Some fault) fresh = Err fault
 
-abbrev pub verdict_of : Association → Reply → Ntp64 → ℕ → Result Bool ReplyFault
+abbrev pub verdict_of : Association → JudgedPacket → Ntp64 → ℕ → Result Bool ReplyFault
 verdict_of server reply destination moment = verdict_by (first_fault_of server reply) (is_fresh server reply destination moment)

@@ -5,13 +5,16 @@ use Rattle.access_rules.specs.declared.servers.ServerLine.{ServerLine}
 use Rattle.clock_filter.specs.Filtering.{empty_state}
 use Rattle.fixed_time.specs.declared.time.Ntp64.{Ntp64}
 use Rattle.associations.specs.declared.association.Association.{Association}
-use Rattle.associations.specs.declared.association.TheConstants.{UNREACHABLE, MAX_EVENTS}
+use Rattle.mode6_frame.specs.declared.events.TheConstants.{UNREACHABLE, MAX_EVENTS, NO_EVENT}
+use Rattle.mode6_frame.specs.declared.selections.TheConstants.{REJECTED}
+use Rattle.ntp_packet.specs.declared.leap_version_mode.TheConstants.{LEAP_UNSYNCHRONIZED}
+use Rattle.ntp_packet.specs.declared.packet.TheConstants.{UNSYNCHRONIZED_STRATUM}
 use Rattle.sys_vars.specs.declared.peer_views.TheConstants.{MAX_PEERS}
 
 -- the numbers of an association have the widths of its status word: the leap indicator two bits, the selection code three, events and code four; its stratum is at most that of a clock that is not synchronized
 pub record IsAssociation (server : Association) : Type 0 where
   pub leap : server.leap ≤ 3
-  pub stratum : server.stratum ≤ 16
+  pub stratum : server.stratum ≤ UNSYNCHRONIZED_STRATUM
   pub selection : server.selection ≤ 7
   pub events : server.events ≤ MAX_EVENTS
   pub code : server.code ≤ 15
@@ -21,14 +24,14 @@ pub record ArePeers (peers : List Association) : Type 0 where
   pub few : length peers ≤ MAX_PEERS
   pub each : All IsAssociation peers
 
--- before its first reply: leap 3, stratum 16, refid INIT, an empty filter without an estimate, all else 0
+-- before its first reply: not synchronized, refid INIT, an empty filter without an estimate, all else 0
 abbrev pub opened : ServerLine → Association
 opened line = record {
   line = line;
   pmode = 0;
   ppoll = pos 0;
-  leap = 3;
-  stratum = 16;
+  leap = LEAP_UNSYNCHRONIZED;
+  stratum = UNSYNCHRONIZED_STRATUM;
   precision = pos 0;
   root_delay = 0;
   root_disp = 0;
@@ -41,9 +44,9 @@ opened line = record {
   auth_ok = false;
   filter = empty_state;
   estimate = None;
-  selection = 0;
+  selection = REJECTED;
   events = 0;
-  code = 0;
+  code = NO_EVENT;
 }
 
 -- after an event: its code is the last one, and events are counted up to 15

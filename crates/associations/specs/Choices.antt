@@ -1,6 +1,7 @@
 -- What a selection makes of the servers: who are falsetickers, outliers and survivors (RFC 5905, section 11.2; RFC 9327, section 3.2, table 6).
 use Rattle.std.specs.Prelude.{ℕ, ℤ, ◌==◌, Bool, not, if◌then◌else◌, List, [], map, Option, None, Some}
 use Rattle.std.specs.List.{list_any}
+use Rattle.mode6_frame.specs.declared.selections.TheConstants.{REJECTED, FALSETICKER, OUTLIER, SURVIVOR, SYSTEM_PEER}
 use Rattle.select_cluster.specs.Clustering.{Clusters, survivors_of}
 use Rattle.select_cluster.specs.Combining.{combined_jitter, combined_offset, system_peer}
 use Rattle.select_cluster.specs.Selecting.{IsAccepted, IsSelected, inside}
@@ -11,7 +12,6 @@ use Rattle.associations.specs.Candidates.{candidate_of, numbered}
 use Rattle.associations.specs.declared.association.Association.{Association}
 use Rattle.associations.specs.declared.choosing.Choice.{Choice}
 use Rattle.associations.specs.declared.choosing.Choice.TheVariants.{NoMajority, Majority}
-use Rattle.associations.specs.declared.choosing.TheConstants.{REJECTED, FALSETICKER, OUTLIER, SURVIVOR, SYSTEM_PEER}
 
 -- the choice among candidates: none where no number of falsetickers is accepted, else the selected interval and the survivors that clustering leaves in it
 abbrev pub IsChoice : List Candidate → Choice → Type 0

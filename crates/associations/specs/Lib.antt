@@ -1,7 +1,7 @@
 pub mod Associations
 pub mod Requests
-pub mod Replies
 pub mod Judging
+pub mod Replies
 pub mod Samples
 pub mod Accepting
 pub mod Taking

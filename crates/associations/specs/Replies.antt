@@ -1,22 +1,30 @@
--- Which octets are a server's reply (RFC 5905, sections 7.3 and 7.5).
+-- Which octets are a server's reply (RFC 5905, sections 7.3 and 7.5), and which faults are told before its MAC is looked at (our own rule).
 use Rattle.std.specs.Prelude.{◌≡◌, ℕ, List, Option, None, Some}
 use Rattle.mac_keys.specs.declared.keys.Key.{Key}
-use Rattle.ntp_packet.specs.Packet.{IsPacket}
-use Rattle.ntp_trailer.specs.declared.parts.Trailer.{Trailer as FieldsAndMac}
-use Rattle.ntp_trailer.specs.Trailers.{HasTrailer}
-use Rattle.ntp_trailer.specs.Authentic.{IsAuth}
-use Rattle.associations.specs.declared.reading.Reply.{Reply}
-use Rattle.associations.specs.declared.reading.TheConstants.{MODE_SERVER}
+use Rattle.ntp_packet.specs.declared.leap_version_mode.TheConstants.{MODE_SERVER}
+use Rattle.ntp_trailer.specs.Packets.{IsJudgedPacket}
+use Rattle.ntp_trailer.specs.declared.packet.JudgedPacket.{JudgedPacket}
+use Rattle.associations.specs.Judging.{early_fault_of}
+use Rattle.associations.specs.declared.association.Association.{Association}
+use Rattle.associations.specs.declared.judging.ReplyFault.{ReplyFault}
+use Rattle.associations.specs.declared.judging.ReplyFault.TheVariants.{Malformed}
 
--- the octets are a header of a server's mode, extension fields and a MAC, end to end, or a header alone; and the MAC shows this
-pub record IsReply (keys : List Key) (octets : List ℕ) (reply : Reply) : Type 0 where
-  pub trailer : FieldsAndMac
-  pub packet : IsPacket octets reply.header
+-- the octets are a packet of a server's mode, with this header; and its MAC shows this where these keys are known
+pub record IsReply (keys : List Key) (octets : List ℕ) (reply : JudgedPacket) : Type 0 where
+  pub packet : IsJudgedPacket keys octets reply
   pub server : reply.header.mode ≡ MODE_SERVER
-  pub follows : HasTrailer octets trailer
-  pub shown : IsAuth keys octets trailer reply.auth
 
 -- the octets are this reply, or none
-abbrev pub IsRead : List Key → List ℕ → Option Reply → Type 0
-IsRead keys octets None = (reply : Reply) → ¬ (IsReply keys octets reply)
+abbrev pub IsRead : List Key → List ℕ → Option JudgedPacket → Type 0
+IsRead keys octets None = (reply : JudgedPacket) → ¬ (IsReply keys octets reply)
 IsRead keys octets (Some reply) = IsReply keys octets reply
+
+-- the octets are a reply, or none
+pub record IsReadable (keys : List Key) (octets : List ℕ) : Type 0 where
+  pub reading : Option JudgedPacket
+  pub is : IsRead keys octets reading
+
+-- the first fault of what was read that is told before its MAC is looked at
+abbrev pub reading_fault_of : Association → Option JudgedPacket → Option ReplyFault
+reading_fault_of server None = Some Malformed
+reading_fault_of server (Some reply) = early_fault_of server reply.header

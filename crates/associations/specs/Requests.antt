@@ -4,16 +4,17 @@ use Rattle.access_rules.specs.declared.servers.ServerLine.{ServerLine}
 use Rattle.fixed_time.specs.declared.time.Ntp64.{Ntp64}
 use Rattle.mac_keys.specs.declared.keys.Key.{Key}
 use Rattle.mac_keys.specs.Tables.{key_of}
+use Rattle.ntp_packet.specs.declared.leap_version_mode.TheConstants.{CURRENT_VERSION, MODE_CLIENT}
 use Rattle.ntp_packet.specs.declared.packet.Header.{Header}
 use Rattle.ntp_packet.specs.Packet.{spelled_header}
 use Rattle.ntp_trailer.specs.Authentic.{spelled_mac}
-use Rattle.associations.specs.declared.asking.TheConstants.{MODE_CLIENT, VERSION, PRECISION}
+use Rattle.sys_vars.specs.declared.system.TheConstants.{PRECISION}
 
--- its header: version 4, a client's mode, the line's poll, our precision and the transmit timestamp; all else is 0
+-- its header: the current version, a client's mode, the line's poll, our precision and the transmit timestamp; all else is 0
 unfoldable pub request_header : ServerLine → Ntp64 → Header
 request_header line transmit = record {
   leap = 0;
-  version = VERSION;
+  version = CURRENT_VERSION;
   mode = MODE_CLIENT;
   stratum = 0;
   poll = pos line.poll;

@@ -10,16 +10,17 @@ use Rattle.fixed_time.specs.declared.time.Ntp64.{Ntp64}
 use Rattle.fixed_time.specs.declared.time.Span.{Span}
 use Rattle.fixed_time.specs.declared.time.TheConstants.{MAX_DISPERSION}
 use Rattle.md5.specs.Md5.{md5}
+use Rattle.mode6_frame.specs.declared.events.TheConstants.{CLOCK_SYNCHRONIZED, FREQUENCY_STEPPED, FREQUENCY_TRAINING, MAX_EVENTS, NO_DRIFT_FILE, NO_SYSTEM_PEER, PANIC_STOP, SPIKE_DETECTED}
+use Rattle.mode6_frame.specs.declared.sources.TheConstants.{NO_SOURCE, UDP_NTP}
 use Rattle.net_addr.specs.declared.addr.Ip.{Ip}
 use Rattle.net_addr.specs.declared.addr.Ip.TheVariants.{V4, V6}
+use Rattle.ntp_packet.specs.declared.leap_version_mode.TheConstants.{LEAP_UNSYNCHRONIZED}
+use Rattle.ntp_packet.specs.declared.packet.TheConstants.{MAX_SYNCHRONIZED_STRATUM, UNSYNCHRONIZED_STRATUM}
 use Rattle.select_cluster.specs.declared.combining.Combined.{Combined}
 use Rattle.sys_vars.specs.declared.system.System.{System}
 use Rattle.associations.specs.Showing.{estimate_shown}
 use Rattle.associations.specs.Taking.{time_at}
 use Rattle.associations.specs.declared.association.Association.{Association}
-use Rattle.associations.specs.declared.association.TheConstants.{MAX_EVENTS}
-use Rattle.associations.specs.declared.judging.TheConstants.{LEAP_UNKNOWN, MAX_SYNCHRONISED}
-use Rattle.associations.specs.declared.systems.TheConstants.{NO_SOURCE, NO_STRATUM, NO_SYSTEM_PEER, PANIC_STOP, UDP_NTP}
 
 -- the values of a system, without what is known of their widths
 pub record SystemValues : Type 0 where
@@ -68,11 +69,11 @@ system_event code old = record old { events = min (old.events + 1) MAX_EVENTS; c
 
 -- the code of the event that the discipline enters a state (table 4)
 abbrev pub event_of : State → ℕ
-event_of Nset = 1
-event_of Fset = 2
-event_of Spik = 3
-event_of Freq = 4
-event_of Sync = 5
+event_of Nset = NO_DRIFT_FILE
+event_of Fset = FREQUENCY_STEPPED
+event_of Spik = SPIKE_DETECTED
+event_of Freq = FREQUENCY_TRAINING
+event_of Sync = CLOCK_SYNCHRONIZED
 
 -- the discipline is in this state, which is an event where it was in another
 abbrev pub in_state : State → SystemValues → SystemValues
@@ -85,7 +86,7 @@ unselected old = system_event NO_SYSTEM_PEER (record old { peer = 0 })
 
 -- the leap indicator that comes from a server: below one of stratum 15 no clock is synchronized
 abbrev pub leap_below : Association → ℕ
-leap_below server = if server.stratum == MAX_SYNCHRONISED then LEAP_UNKNOWN else server.leap
+leap_below server = if server.stratum == MAX_SYNCHRONIZED_STRATUM then LEAP_UNSYNCHRONIZED else server.leap
 
 -- the reference identifier of a server: its IPv4 address, or the first four octets of the MD5 digest of its IPv6 address (RFC 5905, section 7.3)
 abbrev pub refid_of : Ip → List ℕ
@@ -113,8 +114,8 @@ adjusted server combined clock moment old = record old {
 -- the clock was stepped: it is not synchronized until it is measured again; peer, offset, jitter and poll stay
 abbrev pub stepped : SoftClock → ℕ → SystemValues → SystemValues
 stepped clock moment old = record old {
-  leap = LEAP_UNKNOWN;
-  stratum = NO_STRATUM;
+  leap = LEAP_UNSYNCHRONIZED;
+  stratum = UNSYNCHRONIZED_STRATUM;
   root_delay = 0;
   root_disp = MAX_DISPERSION;
   refid = codes "STEP";

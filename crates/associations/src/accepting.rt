@@ -1,28 +1,18 @@
-ghost use Rattle.std.specs.Prelude.{◌≡◌, ◌≤◌, IfErr, false};
+ghost use Rattle.std.specs.Prelude.{◌≡◌, ◌≤◌, IfErr, None, false};
 ghost use Rattle.associations.specs.Associations.{IsAssociation};
-ghost use Rattle.associations.specs.Judging.{IsDecided, IsSynchronized, ends_waiting};
-ghost use Rattle.associations.specs.Accepting.{accepted, gives_estimate, is_fresh, is_good, judged, reach_after_reply, sampled, taken_over, with_header, verdict_of};
+ghost use Rattle.associations.specs.Judging.{IsDecided, IsSynchronized, early_fault_of, ends_waiting};
+ghost use Rattle.associations.specs.Accepting.{accepted, gives_estimate, is_fresh, judged, reach_after_reply, sampled, taken_over, with_header, verdict_of};
 
-use crate::association::{Association, REACHABLE, note_event};
-use crate::judging::{ReplyFault, first_fault, refuse};
-use crate::reading::Reply;
+use crate::association::{Association, note_event};
+use crate::judging::{ReplyFault, late_fault, refuse};
 use crate::sampling::measure;
 use clock_filter::Sample;
 use fixed_time::{Ntp64, from_short};
-use mac_keys::Auth;
-
-/// Whether the MAC is good with any key.
-fn is_good(auth: Auth) -> bool
-    ensures { result ≡ is_good auth }
-{
-    match auth {
-        Auth::Good(_) => true,
-        Auth::Absent | Auth::Bad => false,
-    }
-}
+use mode6_frame::REACHABLE;
+use ntp_trailer::JudgedPacket;
 
 /// Takes the fields of a reply's header over.
-fn take_header(of: &mut Association, reply: &Reply)
+fn take_header(of: &mut Association, reply: &JudgedPacket)
     ensures value { of.new ≡ with_header of.old reply.now }
     ensures sound { IsSynchronized reply.now → IsAssociation of.old → IsAssociation of.new }
 {
@@ -37,7 +27,7 @@ fn take_header(of: &mut Association, reply: &Reply)
     of.refid = header.refid;
     of.reference = header.reference;
     of.transmit = header.transmit;
-    of.auth_ok = is_good(reply.auth);
+    of.auth_ok = reply.auth.is_good();
 }
 
 /// The reach register after a reply.
@@ -48,7 +38,7 @@ fn mark(reach: u8) -> u8
 }
 
 /// Keeps that a reply came when our clock showed the destination timestamp.
-fn take_over(of: &mut Association, reply: &Reply, destination: Ntp64)
+fn take_over(of: &mut Association, reply: &JudgedPacket, destination: Ntp64)
     ensures value { of.new ≡ taken_over of.old reply.now destination }
     ensures sound { IsSynchronized reply.now → IsAssociation of.old → IsAssociation of.new }
 {
@@ -74,7 +64,7 @@ fn put_sample(of: &mut Association, sample: Sample, moment: u64) -> bool
 }
 
 /// Accepts a reply; whether there is a new estimate.
-fn accept(of: &mut Association, reply: &Reply, destination: Ntp64, moment: u64) -> bool
+fn accept(of: &mut Association, reply: &JudgedPacket, destination: Ntp64, moment: u64) -> bool
     ensures after { of.new ≡ accepted of.old reply.now destination moment }
     ensures fresh { result ≡ is_fresh of.old reply.now destination moment }
     ensures sound { IsSynchronized reply.now → IsAssociation of.old → IsAssociation of.new }
@@ -84,20 +74,23 @@ fn accept(of: &mut Association, reply: &Reply, destination: Ntp64, moment: u64) 
     put_sample(of, sample, moment)
 }
 
-/// Refuses a reply for its first fault, or accepts it; whether there is a new estimate.
+/// Refuses a reply without an early fault for its first one, or accepts it; whether there is a new
+/// estimate.
+#[tactic(auto, using(crate::proofs::JudgingLemmas::first_fault_late))]
 pub(crate) fn judge(
     of: &mut Association,
-    reply: &Reply,
+    reply: &JudgedPacket,
     destination: Ntp64,
     moment: u64,
 ) -> Result<bool, ReplyFault>
+    requires { early_fault_of of.old reply.now.header ≡ None }
     ensures verdict { result ≡ verdict_of of.old reply.now destination moment }
     ensures after { of.new ≡ judged of.old reply.now destination moment }
     ensures kept { IfErr result (λ fault. ends_waiting fault ≡ false → of.new ≡ of.old) }
     ensures decided { IfErr result IsDecided }
     ensures sound { reply.now.header.leap ≤ 3 → IsAssociation of.old → IsAssociation of.new }
 {
-    match first_fault(of, reply) {
+    match late_fault(of, reply) {
         Some(fault) => {
             refuse(of, fault);
             Err(fault)

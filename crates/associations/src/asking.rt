@@ -7,17 +7,9 @@ use access_rules::ServerLine;
 use edge_traits::Octets;
 use fixed_time::{Ntp64, Short};
 use mac_keys::{Key, KeyTable};
-use ntp_packet::Header;
+use ntp_packet::{CURRENT_VERSION, Header, MODE_CLIENT};
 use ntp_trailer::append_mac;
-
-/// The mode of a client's request (RFC 5905, section 7.3, figure 10).
-pub const MODE_CLIENT: u8 = 3;
-
-/// The version of a request (RFC 5905).
-pub const VERSION: u8 = 4;
-
-/// The precision of our clock, in log2 seconds: about a microsecond (our own rule).
-pub const PRECISION: i8 = -20;
+use sys_vars::PRECISION;
 
 /// The most octets of a request: its header, and a MAC of a key id and 20 octets of digest.
 pub const MAX_REQUEST_LEN: usize = 72;
@@ -62,7 +54,7 @@ fn make_header(line: ServerLine, transmit: Ntp64) -> Header
 {
     Header {
         leap: 0,
-        version: VERSION,
+        version: CURRENT_VERSION,
         mode: MODE_CLIENT,
         stratum: 0,
         poll: line.poll.cast_signed(),

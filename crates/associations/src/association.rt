@@ -4,15 +4,8 @@ ghost use Rattle.associations.specs.Associations.{IsAssociation, asked, opened, 
 use access_rules::ServerLine;
 use clock_filter::{Estimate, Filter};
 use fixed_time::Ntp64;
-
-/// The code of the event that a server is no longer reachable (RFC 9327, section 3.2, table 7).
-pub const UNREACHABLE: u8 = 3;
-
-/// The code of the event that a server has become reachable (RFC 9327, section 3.2, table 7).
-pub const REACHABLE: u8 = 4;
-
-/// The most events that are counted: the count has four bits (RFC 9327, section 3.2).
-pub const MAX_EVENTS: u8 = 15;
+use mode6_frame::{MAX_EVENTS, NO_EVENT, REJECTED, UNREACHABLE};
+use ntp_packet::{LEAP_UNSYNCHRONIZED, UNSYNCHRONIZED_STRATUM};
 
 /// What is kept of one server: what its last accepted reply told, and what was measured (RFC 5905,
 /// section 9.1). Times without another unit are in 32.32 seconds.
@@ -69,8 +62,8 @@ pub(crate) fn open(line: ServerLine) -> Association
         line,
         pmode: 0,
         ppoll: 0,
-        leap: 3,
-        stratum: 16,
+        leap: LEAP_UNSYNCHRONIZED,
+        stratum: UNSYNCHRONIZED_STRATUM,
         precision: 0,
         root_delay: 0,
         root_disp: 0,
@@ -83,9 +76,9 @@ pub(crate) fn open(line: ServerLine) -> Association
         auth_ok: false,
         filter: Filter::new(),
         estimate: None,
-        selection: 0,
+        selection: REJECTED,
         events: 0,
-        code: 0,
+        code: NO_EVENT,
     }
 }
 

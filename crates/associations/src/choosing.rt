@@ -7,22 +7,8 @@ ghost use Rattle.select_cluster.specs.Combining.{system_peer};
 use crate::association::Association;
 use crate::candidates::candidate_of;
 use crate::peers::MAX_PEERS;
+use mode6_frame::{FALSETICKER, OUTLIER, REJECTED, SURVIVOR, SYSTEM_PEER};
 use select_cluster::{Candidate, Interval, MAX_CANDIDATES, Survivors, cluster, is_inside, select};
-
-/// The selection code of a server that is no candidate (RFC 9327, section 3.2, table 6).
-pub const REJECTED: u8 = 0;
-
-/// The selection code of a candidate that the selection casts out.
-pub const FALSETICKER: u8 = 1;
-
-/// The selection code of a candidate that clustering takes out.
-pub const OUTLIER: u8 = 3;
-
-/// The selection code of a survivor.
-pub const SURVIVOR: u8 = 4;
-
-/// The selection code of the first survivor.
-pub const SYSTEM_PEER: u8 = 6;
 
 /// What is chosen among candidates (RFC 5905, section 11.2).
 #[derive(Drop)]

@@ -4,27 +4,29 @@ ghost use Rattle.associations.specs.Accepting.{judged, verdict_of};
 ghost use Rattle.associations.specs.Associations.{ArePeers, asked, opened};
 ghost use Rattle.associations.specs.DueTimes.{moment_after};
 ghost use Rattle.associations.specs.declared.asking.TheConstants.{MAX_REQUEST_LEN};
-ghost use Rattle.associations.specs.Judging.{IsDecided, ends_waiting};
-ghost use Rattle.associations.specs.Replies.{IsRead};
+ghost use Rattle.associations.specs.Judging.{IsDecided, early_fault_of, ends_waiting};
+ghost use Rattle.associations.specs.Replies.{IsRead, IsReadable};
+ghost use Rattle.net_addr.specs.Addresses.{same_addr};
 ghost use Rattle.associations.specs.Requests.{request_header, request_of};
 ghost use Rattle.associations.specs.Settling.{IsSettled};
 ghost use Rattle.associations.specs.Showing.{AreViews};
 ghost use Rattle.ntp_packet.specs.Packet.{IsPacket};
-ghost use Rattle.associations.specs.Taking.{HasPeer, IsReadable, answer_by, answer_to, line_for, peer_at, peers_after, place_for, same_addr, time_at};
+ghost use Rattle.associations.specs.Taking.{HasPeer, answer_by, answer_to, line_for, peer_at, peers_after, place_for, time_at};
 
 use crate::accepting::judge;
 use crate::asking::make_request;
 use crate::association::{Association, note_request, open};
 use crate::due_times::{NextRequest, is_rate, moment_after, seconds_of};
 use crate::judging::ReplyFault;
-use crate::reading::{Reply, read_reply};
+use crate::reading::read_reply;
 use crate::settling::settle_all;
 use crate::showing::view_all;
 use access_rules::ServerLine;
 use discipline::{Loop, SoftClock};
 use edge_traits::Octets;
 use mac_keys::KeyTable;
-use net_addr::{Addr, same_ip};
+use net_addr::{Addr, is_same_addr};
+use ntp_trailer::JudgedPacket;
 use std::alloc::{AllocError, Global};
 use std::marker::Model;
 pub use sys_vars::MAX_PEERS;
@@ -56,18 +58,11 @@ impl Model for Peers {
     ghost invariant = { λ p. ArePeers p.list.items };
 }
 
-/// Whether two addresses and their ports are the same.
-fn same_addr(one: &Addr, other: &Addr) -> bool
-    ensures { result ≡ same_addr one.now other.now }
-{
-    same_ip(&one.ip, &other.ip) && one.port == other.port
-}
-
 /// The place of the first line with this address and port.
 fn find_line(list: &[Association], from: &Addr) -> Option<usize>
     ensures { result ≡ position (λ p. same_addr p.line.addr from.now) list.now }
 {
-    list.iter().position(|p| same_addr(&p.line.addr, from))
+    list.iter().position(|p| is_same_addr(&p.line.addr, from))
 }
 
 /// That place, or the end.
@@ -225,9 +220,9 @@ impl Peers {
         moment: u64,
     ) -> Result<TakenReply, ReplyFault>
         ensures read { IsSome (line_for self.old from.now) → IsReadable keys.now bytes.now }
-        ensures answer { (reading : Option Reply) → IsRead keys.now bytes.now reading
+        ensures answer { (reading : Option JudgedPacket) → IsRead keys.now bytes.now reading
             → result ≡ answer_to self.old from.now reading (time_at clock.now moment) moment }
-        ensures after { (reading : Option Reply) → IsRead keys.now bytes.now reading
+        ensures after { (reading : Option JudgedPacket) → IsRead keys.now bytes.now reading
             → self.new ≡ peers_after self.old from.now reading (time_at clock.now moment) moment }
         ensures kept { IfErr result (λ fault. ends_waiting fault ≡ false → self.new ≡ self.old) }
         ensures by { IfOk result (λ taken. line_for self.old from.now ≡ Some taken.peer) }
@@ -244,9 +239,9 @@ impl Peers {
         if place >= self.list.len() {
             return Err(ReplyFault::NoSuchPeer);
         }
-        match read_reply(bytes, keys) {
-            None => Err(ReplyFault::Malformed),
-            Some(reply) => self.judge_at(place, &reply, clock, moment),
+        match read_reply(&self.list[place], bytes, keys) {
+            Err(fault) => Err(fault),
+            Ok(reply) => self.judge_at(place, &reply, clock, moment),
         }
     }
 
@@ -283,12 +278,14 @@ impl Peers {
     fn judge_at(
         &mut self,
         place: usize,
-        reply: &Reply,
+        reply: &JudgedPacket,
         clock: &SoftClock,
         moment: u64,
     ) -> Result<TakenReply, ReplyFault>
         requires place { place < length self.old }
         requires leap { reply.now.header.leap ≤ 3 }
+        requires proper { IfSome (slice_get self.old place) (λ p.
+            early_fault_of p reply.now.header ≡ None) }
         ensures answer { IfSome (slice_get self.old place) (λ p. result
             ≡ answer_by (place + 1) (verdict_of p reply.now (time_at clock.now moment) moment)) }
         ensures after { IfSome (slice_get self.old place) (λ p. self.new

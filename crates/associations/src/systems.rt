@@ -6,30 +6,19 @@ ghost use Rattle.fixed_time.specs.declared.apart.TheConstants.{CAP};
 ghost use Rattle.md5.specs.Md5.{md5};
 ghost use Rattle.associations.specs.Systems.{adjusted, after_change, event_of, in_state, leap_below, refid_of, stepped, system_event, unselected, values_of};
 
-use crate::association::{Association, MAX_EVENTS};
-use crate::judging::{LEAP_UNKNOWN, MAX_SYNCHRONISED};
+use crate::association::Association;
 use crate::showing::show_estimate;
 use discipline::{Change, Loop, SoftClock, State};
 use fixed_time::{MAX_DISPERSION, Ntp64};
 use md5::{Digest, Md5};
+use mode6_frame::{
+    CLOCK_SYNCHRONIZED, FREQUENCY_STEPPED, FREQUENCY_TRAINING, MAX_EVENTS, NO_DRIFT_FILE, NO_SOURCE,
+    NO_SYSTEM_PEER, PANIC_STOP, SPIKE_DETECTED, UDP_NTP,
+};
 use net_addr::Ip;
+use ntp_packet::{LEAP_UNSYNCHRONIZED, MAX_SYNCHRONIZED_STRATUM, UNSYNCHRONIZED_STRATUM};
 use select_cluster::Combined;
 use sys_vars::System;
-
-/// The clock source of a system that no source sets (RFC 9327, section 3.1, table 3).
-pub const NO_SOURCE: u8 = 0;
-
-/// The clock source of a system that servers set (RFC 9327, section 3.1, table 3).
-pub const UDP_NTP: u8 = 6;
-
-/// The stratum of a clock that is not synchronized (RFC 5905, section 7.2: MAXSTRAT).
-pub const NO_STRATUM: u8 = 16;
-
-/// The code of the event that an offset is over the panic threshold (RFC 9327, section 3.1, table 4).
-pub const PANIC_STOP: u8 = 7;
-
-/// The code of the event that there is no system peer (RFC 9327, section 3.1, table 4).
-pub const NO_SYSTEM_PEER: u8 = 8;
 
 /// Counts an event of the system and keeps its code (RFC 9327, section 3.1).
 fn note_system_event(system: System, code: u8) -> System
@@ -48,11 +37,11 @@ fn event_of(state: State) -> u8
     ensures within { result ≤ 15 }
 {
     match state {
-        State::Nset => 1,
-        State::Fset => 2,
-        State::Spik => 3,
-        State::Freq => 4,
-        State::Sync => 5,
+        State::Nset => NO_DRIFT_FILE,
+        State::Fset => FREQUENCY_STEPPED,
+        State::Spik => SPIKE_DETECTED,
+        State::Freq => FREQUENCY_TRAINING,
+        State::Sync => CLOCK_SYNCHRONIZED,
     }
 }
 
@@ -83,8 +72,8 @@ fn find_leap(server: &Association) -> u8
     ensures value { result ≡ leap_below server.now }
     ensures within { result ≤ 3 }
 {
-    if server.stratum == MAX_SYNCHRONISED {
-        LEAP_UNKNOWN
+    if server.stratum == MAX_SYNCHRONIZED_STRATUM {
+        LEAP_UNSYNCHRONIZED
     } else {
         server.leap
     }
@@ -159,8 +148,8 @@ fn step(system: System, clock: SoftClock, moment: u64) -> System
     ensures { values_of result ≡ stepped clock moment (values_of system) }
 {
     System {
-        leap: LEAP_UNKNOWN,
-        stratum: NO_STRATUM,
+        leap: LEAP_UNSYNCHRONIZED,
+        stratum: UNSYNCHRONIZED_STRATUM,
         precision: system.precision,
         root_delay: 0,
         root_disp: MAX_DISPERSION,

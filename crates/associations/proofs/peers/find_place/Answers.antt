@@ -1,7 +1,7 @@
 use Rattle.std.proofs.Common.{arith, length, ap, ◌∙◌}
 use Rattle.std.specs.Prelude.{unwrap_or}
 use Rattle.fixed_time.proofs.OrderLemmas.{first_within}
-use Rattle.associations.specs.Taking.{same_addr}
+use Rattle.net_addr.specs.Addresses.{same_addr}
 use Rattle.associations.proofs.peers.find_place.Goals as goal
 
 pub returns-clause-within : goal.returns-clause-within
