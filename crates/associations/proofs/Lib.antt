@@ -1,6 +1,7 @@
 pub mod AnswerLemmas
 pub mod ChoosingLemmas
 pub mod JudgingLemmas
+pub mod MarkLemmas
 pub mod NumberLemmas
 pub mod ReadingLemmas
 pub mod ShowingLemmas

@@ -31,9 +31,9 @@ same_texts (x ∷ xs) [] = inr (λ is. cc)
 same_texts (x ∷ xs) (y ∷ ys) =
     elim (cases_eq x y) [
       | inl first ↦ elim (same_texts xs ys) [
-          | inl rest ↦ inl (ap (λ z. z ∷ xs) first ∙ ap (λ zs. y ∷ zs) rest)
-          | inr other ↦ inr (λ is. other cc)
-        ]
+        | inl rest ↦ inl (ap (λ z. z ∷ xs) first ∙ ap (λ zs. y ∷ zs) rest)
+        | inr other ↦ inr (λ is. other cc)
+      ]
       | inr other ↦ inr (λ is. other cc)
     ]
 
@@ -47,9 +47,9 @@ mac_shows : (keys : List Key) (octets : List ℕ) (mac : Mac) → ((id : ℕ) ×
 mac_shows keys octets mac =
     elim (cases_lt KEY_ID_LEN mac.length) [
       | inl long ↦ elim (digests (key_of keys mac.id) (take mac.start octets) (drop (mac.start + KEY_ID_LEN) octets)) [
-          | inl good ↦ inl (mac.id, (refl, long, good))
-          | inr bad ↦ inr (λ id is. bad (subst (λ (n : ℕ). IsAuthentic keys n (take mac.start octets) (drop (mac.start + KEY_ID_LEN) octets)) (sym is.0) is.2))
-        ]
+        | inl good ↦ inl (mac.id, (refl, long, good))
+        | inr bad ↦ inr (λ id is. bad (subst (λ (n : ℕ). IsAuthentic keys n (take mac.start octets) (drop (mac.start + KEY_ID_LEN) octets)) (sym is.0) is.2))
+      ]
       | inr short ↦ inr (λ id is. absurd (omega (arith, short, is.1)))
     ]
 

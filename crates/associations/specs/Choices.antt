@@ -1,5 +1,5 @@
 -- What a selection makes of the servers: who are falsetickers, outliers and survivors (RFC 5905, section 11.2; RFC 9327, section 3.2, table 6).
-use Rattle.std.specs.Prelude.{ℕ, ℤ, ◌==◌, Bool, not, if◌then◌else◌, List, [], map, Option, None, Some}
+use Rattle.std.specs.Prelude.{ℕ, ℤ, ◌≡◌, ◌≢◌, ◌↔◌, ◌+◌, ◌<◌, ◌≤◌, ◌==◌, Bool, IsTrue, List, [], length, slice_index_or, Option, None, IsSomeAnd}
 use Rattle.std.specs.List.{list_any}
 use Rattle.mode6_frame.specs.declared.selections.TheConstants.{REJECTED, FALSETICKER, OUTLIER, SURVIVOR, SYSTEM_PEER}
 use Rattle.select_cluster.specs.Clustering.{Clusters, survivors_of}
@@ -7,8 +7,7 @@ use Rattle.select_cluster.specs.Combining.{combined_jitter, combined_offset, sys
 use Rattle.select_cluster.specs.Selecting.{IsAccepted, IsSelected, inside}
 use Rattle.select_cluster.specs.declared.candidates.Candidate.{Candidate}
 use Rattle.select_cluster.specs.declared.combining.Combined.{Combined}
-use Rattle.select_cluster.specs.declared.selection.Interval.{Interval}
-use Rattle.associations.specs.Candidates.{candidate_of, numbered}
+use Rattle.associations.specs.Candidates.{candidate_of}
 use Rattle.associations.specs.declared.association.Association.{Association}
 use Rattle.associations.specs.declared.choosing.Choice.{Choice}
 use Rattle.associations.specs.declared.choosing.Choice.TheVariants.{NoMajority, Majority}
@@ -36,30 +35,34 @@ combined_of survivors = record {
 abbrev pub is_among : ℕ → List Candidate → Bool
 is_among peer survivors = list_any (λ survivor. survivor.peer == peer) survivors
 
--- the selection code of a candidate within a majority: outside the interval it is a falseticker; inside, clustering takes it out or leaves it, and the first that is left is the system peer
-abbrev pub code_within : Interval → List Candidate → Candidate → ℕ
-code_within interval survivors candidate =
-    if not (inside interval.lo interval.hi candidate) then FALSETICKER
-    else (if not (is_among candidate.peer survivors) then OUTLIER
-    else (if system_peer survivors == candidate.peer then SYSTEM_PEER else SURVIVOR))
+-- the offset of a candidate is in the interval on which a majority agrees
+abbrev pub IsInside : Choice → Candidate → Type 0
+IsInside NoMajority candidate = ⊥
+IsInside (Majority interval survivors) candidate = IsTrue (inside interval.lo interval.hi candidate)
 
--- the selection code of a candidate: without a majority each is a falseticker
-abbrev pub code_of : Choice → Candidate → ℕ
-code_of NoMajority candidate = FALSETICKER
-code_of (Majority interval survivors) candidate = code_within interval survivors candidate
+-- and clustering leaves its server
+abbrev pub IsSurvivor : Choice → Candidate → Type 0
+IsSurvivor choice candidate = IsInside choice candidate × IsTrue (is_among candidate.peer (survivors_in choice))
 
--- the selection code of a server that may be a candidate
-abbrev pub code_by : Choice → Option Candidate → ℕ
-code_by choice None = REJECTED
-code_by choice (Some candidate) = code_of choice candidate
+-- the selection code of a server that may be a candidate: 0 exactly for no candidate, 1 exactly for a falseticker, outside the interval, 3 exactly for an outlier, which clustering takes out, and at least 4 exactly for a survivor, 6 exactly for the first one
+pub record IsSelectionCode (choice : Choice) (candidate : Option Candidate) (code : ℕ) : Type 0 where
+  pub rejected : (code ≡ REJECTED) ↔ (candidate ≡ None)
+  pub falseticker : (code ≡ FALSETICKER) ↔ IsSomeAnd candidate (λ c. ¬ (IsInside choice c))
+  pub outlier : (code ≡ OUTLIER) ↔ IsSomeAnd candidate (λ c. IsInside choice c × ¬ (IsSurvivor choice c))
+  pub survivor : (SURVIVOR ≤ code) ↔ IsSomeAnd candidate (λ c. IsSurvivor choice c)
+  pub later : (code ≡ SURVIVOR) ↔ IsSomeAnd candidate (λ c. IsSurvivor choice c × (c.peer ≢ system_peer (survivors_in choice)))
+  pub first : (code ≡ SYSTEM_PEER) ↔ IsSomeAnd candidate (λ c. IsSurvivor choice c × (c.peer ≡ system_peer (survivors_in choice)))
 
--- a server with its selection code
-abbrev pub marked_one : Choice → ℕ → ℕ → Association → Association
-marked_one choice moment peer server = record server { selection = code_by choice (candidate_of moment peer server) }
+-- the server of this number after a selection: it has its selection code, and all else stays
+pub record IsMarked (choice : Choice) (moment peer : ℕ) (before after : Association) : Type 0 where
+  pub code : IsSelectionCode choice (candidate_of moment peer before) after.selection
+  pub others : after ≡ record before { selection = after.selection }
 
--- the servers with their selection codes
-abbrev pub marked : Choice → ℕ → List Association → List Association
-marked choice moment peers = map (λ (np : ℕ × Association). marked_one choice moment np.0 np.1) (numbered peers)
+-- the servers after a selection, in the order of their numbers, which count from 1
+pub record AreMarked (choice : Choice) (moment : ℕ) (peers marked : List Association) : Type 0 where
+  pub as_many : length marked ≡ length peers
+  pub each : (k : ℕ) (before after : Association) → k < length peers
+      → IsMarked choice moment (k + 1) (slice_index_or peers k before) (slice_index_or marked k after)
 
 -- there is a majority
 abbrev pub HasMajority : Choice → Type 0

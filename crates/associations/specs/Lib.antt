@@ -9,5 +9,6 @@ pub mod DueTimes
 pub mod Showing
 pub mod Candidates
 pub mod Choices
+pub mod Marks
 pub mod Systems
 pub mod Settling

@@ -7,7 +7,7 @@ use Rattle.discipline.specs.declared.feedback.Change.TheVariants.{Ignored, Adjus
 use Rattle.select_cluster.specs.declared.combining.Combined.{Combined}
 use Rattle.sys_vars.specs.declared.system.System.{System}
 use Rattle.associations.specs.Candidates.{candidates_of}
-use Rattle.associations.specs.Choices.{IsChoice, combined_of, marked, survivors_in}
+use Rattle.associations.specs.Choices.{AreMarked, IsChoice, combined_of, survivors_in}
 use Rattle.associations.specs.Systems.{SystemValues, after_change, unselected, values_of}
 use Rattle.associations.specs.Taking.{peer_at}
 use Rattle.associations.specs.declared.association.Association.{Association}
@@ -73,7 +73,9 @@ pub record IsSettled (before : SettleState) (peer moment : ℕ) (after : SettleS
   pub there : peer_at before.peers peer ≡ Some server
   pub choice : Choice
   pub chosen : IsChoice (candidates_of moment before.peers) choice
-  pub others : after.peers ≡ peers_by (case_of choice peer before.engine moment) (marked choice moment before.peers)
+  pub marks : List Association
+  pub marked : AreMarked choice moment before.peers marks
+  pub others : after.peers ≡ peers_by (case_of choice peer before.engine moment) marks
   pub steered : after.engine
       ≡ loop_by (case_of choice peer before.engine moment) (combined_of (survivors_in choice)) server.line.poll before.engine moment
   pub shown : values_of after.system

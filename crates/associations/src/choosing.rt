@@ -1,7 +1,8 @@
 ghost use Rattle.std.specs.Prelude.{◌≡◌, ◌==◌, ◌<◌, ◌≤◌, Contains, length};
 ghost use Rattle.std.specs.List.{All};
 ghost use Rattle.associations.specs.Associations.{IsAssociation};
-ghost use Rattle.associations.specs.Choices.{HasMajority, IsChoice, code_by, code_of, code_within, is_among, marked, marked_one, survivors_in};
+ghost use Rattle.associations.specs.Choices.{HasMajority, IsChoice, is_among, survivors_in};
+ghost use Rattle.associations.specs.Marks.{code_by, code_of, code_within, marked, marked_one};
 ghost use Rattle.select_cluster.specs.Combining.{system_peer};
 
 use crate::association::Association;

@@ -42,8 +42,16 @@ no_flags first second = none_given flag_rules (λ given. Restrict (restricted_by
 
 -- `server` goes on, and its address leads to options
 pub some_server : GoesOn IsServerTail []
-some_server = (zeros_text ∷ [], Server (server_with (some_addr NTP_PORT) []), (some_addr NTP_PORT, record { ip = zeros_fit; port = lit< tt }, some_addr-stands NTP_PORT,
-    none_given server_rules (λ given. Server (server_with (some_addr NTP_PORT) given))))
+some_server = (
+  zeros_text ∷ [],
+  Server (server_with (some_addr NTP_PORT) []),
+  (
+    some_addr NTP_PORT,
+    record { ip = zeros_fit; port = lit< tt },
+    some_addr-stands NTP_PORT,
+    none_given server_rules (λ given. Server (server_with (some_addr NTP_PORT) given)),
+  ),
+)
 
 pub no_server : (word : List ℕ) → ((a : Addr) → IsAddr a → StandsFor word NTP_PORT a → None ≡ Some a) → (more : List (List ℕ)) (line : Line) → ¬ IsServerTail (word ∷ more) line
 no_server word only more line (addr, fits, stands, are) = no_some addr (only addr fits stands)

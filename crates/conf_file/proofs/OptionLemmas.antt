@@ -64,9 +64,18 @@ begin fewest rules before name words given [] none whole = absurd (no_words name
 begin fewest rules before name words given (option ∷ others) (rule, behind, rest, known, cut, is, are) whole =
     let named : name ≡ option.name = same_head name option.name words behind cut in
     let P : List ℕ → Type 0 = λ n. rule_of rules n ≡ Some rule in
-    let Q : List (List ℕ) → Type 0 = λ ws. IsBehind rule.value ws option.number rest in
-    (option.number, rule, rest, others, (subst P (sym named) known, subst Q (sym (same_tail name option.name words behind cut)) is, are,
-    whole ∙ ap (λ n. before ++ record { name = n; number = option.number } ∷ others) (sym named)))
+    let Q : List (List ℕ) → Type 0 = λ ws. IsBehind rule.value ws option.number rest in (
+      option.number,
+      rule,
+      rest,
+      others,
+      (
+        subst P (sym named) known,
+        subst Q (sym (same_tail name option.name words behind cut)) is,
+        are,
+        whole ∙ ap (λ n. before ++ record { name = n; number = option.number } ∷ others) (sym named),
+      ),
+    )
 
 -- a name that has a rule leads to its number
 pub name_leads : (fewest : ℕ) (rules : List OptionWords) (before : List Given) (name : List ℕ) (rule : OptionWords) → rule_of rules name ≡ Some rule
@@ -87,7 +96,7 @@ name_leads fewest rules before name rule known = record {
         let (number, also, behind, others, (found, is, are, whole)) = begin fewest rules before name words given rest.more rest.options rest.whole in
         let P : OptionWords → Type 0 = λ r. IsBehind r.value words number behind in
         record { number = number; rest = behind; more = others; behind = subst P (one_rule (rule_of rules name) also rule found known) is; options = are; whole = whole; once = rest.once; enough = rest.enough }
-  
+
 -- a name without a rule leads nowhere
 pub no_rule : (fewest : ℕ) (rules : List OptionWords) (before : List Given) (name : List ℕ) → rule_of rules name ≡ None → (words : List (List ℕ)) (given : List Given)
     → ¬ IsRest fewest rules before (name ∷ words) given
@@ -225,17 +234,20 @@ rest_ends fewest rules (option ∷ before) few sound once =
 
 pub behind_ends : (fewest : ℕ) (rules : List OptionWords) (before : List Given) (name : List ℕ) (least most : ℕ) → fewest ≤ 1 → least ≤ most → AreOnce before → IsNew name before
     → GoesOn (IsRestBehind fewest rules before name (Number least most)) []
-behind_ends fewest rules before name least most few sound once new =
-    (decimal least ∷ [], before ++ record { name = name; number = least } ∷ [], record {
-      number = least;
-      rest = [];
-      more = [];
-      behind = (decimal least, refl, (refl, omega arith, sound));
-      options = refl;
-      whole = refl;
-      once = once_more before name least once new;
-      enough = omega (arith, few, length-append before (record { name = name; number = least } ∷ []));
-    })
+behind_ends fewest rules before name least most few sound once new = (
+  decimal least ∷ [],
+  before ++ record { name = name; number = least } ∷ [],
+  record {
+    number = least;
+    rest = [];
+    more = [];
+    behind = (decimal least, refl, (refl, omega arith, sound));
+    options = refl;
+    whole = refl;
+    once = once_more before name least once new;
+    enough = omega (arith, few, length-append before (record { name = name; number = least } ∷ []));
+  },
+)
 
 -- what is left at the end is nothing
 pub ended_rest : (fewest : ℕ) (rules : List OptionWords) (before given : List Given) → IsRest fewest rules before [] given → given ≡ before
@@ -299,8 +311,11 @@ pub room_for : (rules : List OptionWords) (given : List Given) (name : List ℕ)
 room_for rules given name rule once known new found =
     let P : Option OptionWords → Type 0 = λ o. IsSome o in
     let is : IsSome (rule_of rules name) = subst P (sym found) refl in
-    omega (arith, given_fit rules (given ++ record { name = name; number = 0 } ∷ []) (once_more given name 0 once new) (known_more rules given name 0 known is),
-    length-append given (record { name = name; number = 0 } ∷ []))
+    omega (
+      arith,
+      given_fit rules (given ++ record { name = name; number = 0 } ∷ []) (once_more given name 0 once new) (known_more rules given name 0 known is),
+      length-append given (record { name = name; number = 0 } ∷ []),
+    )
 
 -- the state after one more option
 pub known_next : (rules : List OptionWords) (given : List Given) (name : List ℕ) (number : ℕ) (rule : OptionWords) → AreKnown rules given → rule_of rules name ≡ Some rule

@@ -52,21 +52,29 @@ none_given rules made = ([], record { options = refl; once = tt; enough = lit≤
 pub limit_sound : AreSound 1 limit_rules
 limit_sound = record {
   bounds = (lit≤ tt, (lit≤ tt, (lit≤ tt, tt)));
-  some = (codes "burst" ∷ decimal 1 ∷ [], record { name = codes "burst"; number = 1 } ∷ [], record {
-    options = (record { name = codes "burst"; value = Number 1 1000 }, decimal 1 ∷ [], [], refl, refl, (decimal 1, refl, (refl, lit≤ tt, lit≤ tt)), refl);
-    once = (tt, tt);
-    enough = lit≤ tt;
-  });
+  some = (
+    codes "burst" ∷ decimal 1 ∷ [],
+    record { name = codes "burst"; number = 1 } ∷ [],
+    record {
+      options = (record { name = codes "burst"; value = Number 1 1000 }, decimal 1 ∷ [], [], refl, refl, (decimal 1, refl, (refl, lit≤ tt, lit≤ tt)), refl);
+      once = (tt, tt);
+      enough = lit≤ tt;
+    },
+  );
 }
 
 pub mru_sound : AreSound 1 mru_rules
 mru_sound = record {
   bounds = (lit≤ tt, (lit≤ tt, (lit≤ tt, (lit≤ tt, tt))));
-  some = (codes "mindepth" ∷ decimal 1 ∷ [], record { name = codes "mindepth"; number = 1 } ∷ [], record {
-    options = (record { name = codes "mindepth"; value = Number 0 16384 }, decimal 1 ∷ [], [], refl, refl, (decimal 1, refl, (refl, lit≤ tt, lit≤ tt)), refl);
-    once = (tt, tt);
-    enough = lit≤ tt;
-  });
+  some = (
+    codes "mindepth" ∷ decimal 1 ∷ [],
+    record { name = codes "mindepth"; number = 1 } ∷ [],
+    record {
+      options = (record { name = codes "mindepth"; value = Number 0 16384 }, decimal 1 ∷ [], [], refl, refl, (decimal 1, refl, (refl, lit≤ tt, lit≤ tt)), refl);
+      once = (tt, tt);
+      enough = lit≤ tt;
+    },
+  );
 }
 
 pub server_sound : AreSound 0 server_rules

@@ -94,11 +94,15 @@ refused_as means other number all word words told is alike goes_on (place, refus
 -- a place by a grammar that means the same
 pub refused_same : {M : Type 0} (means other : List (List ℕ) → M → Type 0) (number : ℕ) (all : List (List ℕ)) (told : ℕ) → ((words : List (List ℕ)) (line : M) → means words line → other words line)
     → ((words : List (List ℕ)) (line : M) → other words line → means words line) → IsRefusedFrom number other all told → IsRefusedFrom number means all told
-refused_same {M = M} means other number all told onward back (place, refused, same) = (place, record {
-  within = refused.within;
-  goes_on = on (take place all) refused.goes_on;
-  stops = stopped (take place all) (drop place all) refused.stops;
-}, same)
+refused_same {M = M} means other number all told onward back (place, refused, same) = (
+  place,
+  record {
+    within = refused.within;
+    goes_on = on (take place all) refused.goes_on;
+    stops = stopped (take place all) (drop place all) refused.stops;
+  },
+  same,
+)
   where
     on : (front : List (List ℕ)) → GoesOn other front → GoesOn means front
     on front (more, line, is) = (more, line, back (front ++ more) line is)

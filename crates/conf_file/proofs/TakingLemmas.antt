@@ -1,6 +1,6 @@
 -- Lines that are taken into a draft, and lines that are refused there.
-use Rattle.std.proofs.Common.{◌≡◌, ℕ, ◌+◌, ◌≤◌, List, ◌∷◌, length, Bool, true, false, Option, Some, Result, Ok, Err, refl, sym, ap, subst, ◌∙◌, inl, inr, arith}
-use Rattle.refusals.specs.Refusals.{one_place, refused_nowhere}
+use Rattle.std.proofs.Common.{◌≡◌, ℕ, ◌+◌, zero, suc, ◌≤◌, List, [], ◌∷◌, ◌++◌, take, drop, length, Bool, true, false, Option, Some, Result, Ok, Err, refl, sym, ap, subst, ◌∙◌, inl, inr, arith, lit≤}
+use Rattle.refusals.specs.Refusals.{GoesOn, IsRefusedAt, Stops, one_place, refused_nowhere}
 use Rattle.refusals.specs.Told.{told_number}
 use Rattle.recency.specs.declared.limits.Limits.{Limits}
 use Rattle.recency.specs.declared.limits.TheConstants.{MAX_DEPTH}
@@ -15,7 +15,8 @@ use Rattle.conf_file.specs.declared.list_options.ListOptions.{ListOptions}
 use Rattle.conf_file.specs.declared.tails.Refusal.{Refusal}
 use Rattle.conf_file.specs.declared.tails.Refusal.TheVariants.{At, NoMemory}
 use Rattle.conf_file.specs.ConfLines.{IsConfLine, IsReadOr, IsTail}
-use Rattle.conf_file.specs.ConfTexts.{IsDue, IsRefusedAlone, IsRefusedIn, IsTaken, IsTakenAlone, refusal_of}
+use Rattle.refusals.specs.Lines.{IsRefusedAlone, IsRefusedIn, IsTaken, IsTakenAlone}
+use Rattle.conf_file.specs.ConfTexts.{IsDue, IsLineIn, conf_grammar, refusal_of}
 use Rattle.conf_file.specs.Drafts.{DoFit, IsLimitsOf, IsTakenInto, IsUntaken, is_closed_to, restricted}
 use Rattle.conf_file.specs.Kinds.{kind_of}
 use Rattle.conf_file.proofs.KindLemmas.{kind_leads}
@@ -79,34 +80,50 @@ not_unfit draft l next taken (given, is, unfit) =
 full_or_unfit : (draft : Draft) (l : Line) → IsUntaken draft l Full → ¬ IsUntaken draft l Unfit
 full_or_unfit draft l (given, is, none) (other, also, unfit) = cc
 
--- no more lines of this kind are taken
-pub closed_alone : (draft : Draft) (words : List (List ℕ)) → is_closed_to draft words ≡ true → IsRefusedAlone draft words 1
-closed_alone draft words closed = record {
-  place = 0;
-  refused = inl (closed, refl);
-  only = only;
-  not_taken = λ next taken. both_answers (is_closed_to draft words) closed taken.0;
-  told = refl;
+-- a line of whose kind no more are taken is refused at its first word
+closed_refused : (draft : Draft) (words : List (List ℕ)) → is_closed_to draft words ≡ true → IsRefusedAt (IsLineIn draft) words 0
+closed_refused draft [] closed = cc
+closed_refused draft (word ∷ words) closed = record {
+  within = omega arith;
+  goes_on = ([], line.Nothing, (refl, refl));
+  stops = λ (more, l, (unclosed, is)). both_answers (is_closed_to draft (word ∷ words)) closed unclosed;
 }
-  where
-    only : (other : ℕ) → IsRefusedIn draft words other → other ≡ 0
-    only other (inl (also, at)) = at
-    only other (inr (unclosed, _)) = absurd (both_answers (is_closed_to draft words) closed unclosed)
 
--- no line goes on
-pub misread_alone : (draft : Draft) (words : List (List ℕ)) (told : ℕ) → is_closed_to draft words ≡ false → IsReadOr 1 IsConfLine words (Err (At told)) → IsRefusedAlone draft words told
-misread_alone draft words told unclosed read = record {
-  place = read.refused.0;
-  refused = inr (unclosed, inl read.refused.1);
+-- another line is refused where no line goes on with a word
+front_open : (draft : Draft) (place : ℕ) (words : List (List ℕ)) → is_closed_to draft words ≡ false → is_closed_to draft (take place words) ≡ false
+front_open draft zero words unclosed = refl
+front_open draft (suc place) [] unclosed = refl
+front_open draft (suc place) (word ∷ words) unclosed = unclosed
+
+goes_on_in : (draft : Draft) (front : List (List ℕ)) → is_closed_to draft front ≡ false → GoesOn IsConfLine front → GoesOn (IsLineIn draft) front
+goes_on_in draft [] unclosed on = ([], line.Nothing, (refl, refl))
+goes_on_in draft (word ∷ front) unclosed (more, l, is) = (more, l, (unclosed, is))
+
+stops_in : (draft : Draft) (front rest : List (List ℕ)) → Stops IsConfLine front rest → Stops (IsLineIn draft) front rest
+stops_in draft front [] stops = λ l (unclosed, is). stops l is
+stops_in draft front (word ∷ rest) stops = λ (more, l, (unclosed, is)). stops (more, l, is)
+
+refused_in : (draft : Draft) (words : List (List ℕ)) (place : ℕ) → is_closed_to draft words ≡ false → IsRefusedAt IsConfLine words place → IsRefusedAt (IsLineIn draft) words place
+refused_in draft words place unclosed refused = record {
+  within = refused.within;
+  goes_on = goes_on_in draft (take place words) (front_open draft place words unclosed) refused.goes_on;
+  stops = stops_in draft (take place words) (drop place words) refused.stops;
+}
+
+-- a line that no line goes on with is refused alone
+refused_first : (draft : Draft) (words : List (List ℕ)) (place : ℕ) → IsRefusedAt (IsLineIn draft) words place → IsRefusedAlone conf_grammar draft words place
+refused_first draft words place refused = record {
+  refused = inl refused;
   only = only;
-  not_taken = λ next taken. refused_nowhere IsConfLine words taken.1.0 read.refused.0 taken.1.1 read.refused.1;
-  told = omega (arith, read.refused.2);
+  not_taken = λ next (l, means, into). refused_nowhere (IsLineIn draft) words l place means refused;
 }
   where
-    only : (other : ℕ) → IsRefusedIn draft words other → other ≡ read.refused.0
-    only other (inl (closed, at)) = absurd (both_answers (is_closed_to draft words) closed unclosed)
-    only other (inr (_, inl refused)) = one_place IsConfLine words other read.refused.0 refused read.refused.1
-    only other (inr (_, inr (l, is, _))) = absurd (refused_nowhere IsConfLine words l read.refused.0 is read.refused.1)
+    only : (other : ℕ) → IsRefusedIn conf_grammar draft words other → other ≡ place
+    only other (inl also) = one_place (IsLineIn draft) words other place also refused
+    only other (inr (l, means, untaken)) = absurd (refused_nowhere (IsLineIn draft) words l place means refused)
+
+pub closed_due : (draft : Draft) (words : List (List ℕ)) → is_closed_to draft words ≡ true → IsDue draft words (At 1)
+closed_due draft words closed = (0, refused_first draft words 0 (closed_refused draft words closed), refl)
 
 same_line : (one other : Line) (result : Result Line Refusal) → result ≡ Ok one → result ≡ Ok other → one ≡ other
 same_line one other result first second = cc
@@ -116,91 +133,86 @@ same_read one other same = cc
 
 -- a line is taken
 pub taken_alone : (draft : Draft) (words : List (List ℕ)) (l : Line) (next : Draft) → is_closed_to draft words ≡ false → IsReadOr 1 IsConfLine words (Ok l) → IsTakenInto draft l next
-    → IsTakenAlone draft words next
+    → IsTakenAlone conf_grammar draft words next
 taken_alone draft words l next unclosed read into = record {
-  taken = (unclosed, (l, read.found, into));
+  taken = (l, (unclosed, read.found), into);
   only = only;
   not_refused = not_refused;
 }
   where
-    only : (other : Draft) → IsTaken draft words other → other ≡ next
-    only other (_, (m, is, also)) =
+    only : (other : Draft) → IsTaken conf_grammar draft words other → other ≡ next
+    only other (m, (_, is), also) =
         let same : m ≡ l = sym (same_read l m (read.only m is)) in
         let P : Line → Type 0 = λ k. IsTakenInto draft k other in
         taken_one draft l next other into (subst P same also)
 
-    not_refused : (place : ℕ) → ¬ IsRefusedIn draft words place
-    not_refused place (inl (closed, at)) = both_answers (is_closed_to draft words) closed unclosed
-    not_refused place (inr (_, inl refused)) = refused_nowhere IsConfLine words l place read.found refused
-    not_refused place (inr (_, inr (m, is, inl (full, at)))) =
+    not_refused : (place : ℕ) → ¬ IsRefusedIn conf_grammar draft words place
+    not_refused place (inl refused) = refused_nowhere (IsLineIn draft) words l place (unclosed, read.found) refused
+    not_refused place (inr (m, (_, is), inl (full, at))) =
         let same : m ≡ l = sym (same_read l m (read.only m is)) in
         let P : Line → Type 0 = λ k. IsUntaken draft k Full in
         not_full draft l next into (subst P same full)
-    not_refused place (inr (_, inr (m, is, inr (unfit, at)))) =
+    not_refused place (inr (m, (_, is), inr (unfit, at))) =
         let same : m ≡ l = sym (same_read l m (read.only m is)) in
         let P : Line → Type 0 = λ k. IsUntaken draft k Unfit in
         not_unfit draft l next into (subst P same unfit)
 
 -- one rule too many
-pub full_alone : (draft : Draft) (words : List (List ℕ)) (l : Line) → is_closed_to draft words ≡ false → IsReadOr 1 IsConfLine words (Ok l) → IsUntaken draft l Full
-    → IsRefusedAlone draft words 1
+full_alone : (draft : Draft) (words : List (List ℕ)) (l : Line) → is_closed_to draft words ≡ false → IsReadOr 1 IsConfLine words (Ok l) → IsUntaken draft l Full
+    → IsRefusedAlone conf_grammar draft words 0
 full_alone draft words l unclosed read full = record {
-  place = 0;
-  refused = inr (unclosed, inr (l, read.found, inl (full, refl)));
+  refused = inr (l, (unclosed, read.found), inl (full, refl));
   only = only;
   not_taken = not_taken;
-  told = refl;
 }
   where
-    only : (other : ℕ) → IsRefusedIn draft words other → other ≡ 0
-    only other (inl (closed, at)) = at
-    only other (inr (_, inl refused)) = absurd (refused_nowhere IsConfLine words l other read.found refused)
-    only other (inr (_, inr (m, is, inl (also, at)))) = at
-    only other (inr (_, inr (m, is, inr (unfit, at)))) =
+    only : (other : ℕ) → IsRefusedIn conf_grammar draft words other → other ≡ 0
+    only other (inl refused) = absurd (refused_nowhere (IsLineIn draft) words l other (unclosed, read.found) refused)
+    only other (inr (m, (_, is), inl (also, at))) = at
+    only other (inr (m, (_, is), inr (unfit, at))) =
         let same : m ≡ l = sym (same_read l m (read.only m is)) in
         let P : Line → Type 0 = λ k. IsUntaken draft k Unfit in
         absurd (full_or_unfit draft l full (subst P same unfit))
 
-    not_taken : (next : Draft) → ¬ IsTaken draft words next
-    not_taken next (_, (m, is, into)) =
+    not_taken : (next : Draft) → ¬ IsTaken conf_grammar draft words next
+    not_taken next (m, (_, is), into) =
         let same : m ≡ l = sym (same_read l m (read.only m is)) in
         let P : Line → Type 0 = λ k. IsTakenInto draft k next in
         not_full draft l next (subst P same into) full
 
 -- limits that do not fit each other
-pub unfit_alone : (draft : Draft) (words : List (List ℕ)) (l : Line) (told : ℕ) → is_closed_to draft words ≡ false → IsReadOr 1 IsConfLine words (Ok l) → IsUntaken draft l Unfit
-    → told ≡ told_number (length words + 1) → IsRefusedAlone draft words told
-unfit_alone draft words l told unclosed read unfit count = record {
-  place = length words;
-  refused = inr (unclosed, inr (l, read.found, inr (unfit, refl)));
+unfit_alone : (draft : Draft) (words : List (List ℕ)) (l : Line) → is_closed_to draft words ≡ false → IsReadOr 1 IsConfLine words (Ok l) → IsUntaken draft l Unfit
+    → IsRefusedAlone conf_grammar draft words (length words)
+unfit_alone draft words l unclosed read unfit = record {
+  refused = inr (l, (unclosed, read.found), inr (unfit, refl));
   only = only;
   not_taken = not_taken;
-  told = count;
 }
   where
-    only : (other : ℕ) → IsRefusedIn draft words other → other ≡ length words
-    only other (inl (closed, at)) = absurd (both_answers (is_closed_to draft words) closed unclosed)
-    only other (inr (_, inl refused)) = absurd (refused_nowhere IsConfLine words l other read.found refused)
-    only other (inr (_, inr (m, is, inl (full, at)))) =
+    only : (other : ℕ) → IsRefusedIn conf_grammar draft words other → other ≡ length words
+    only other (inl refused) = absurd (refused_nowhere (IsLineIn draft) words l other (unclosed, read.found) refused)
+    only other (inr (m, (_, is), inl (full, at))) =
         let same : m ≡ l = sym (same_read l m (read.only m is)) in
         let P : Line → Type 0 = λ k. IsUntaken draft k Full in
         absurd (full_or_unfit draft l (subst P same full) unfit)
-    only other (inr (_, inr (m, is, inr (also, at)))) = at
+    only other (inr (m, (_, is), inr (also, at))) = at
 
-    not_taken : (next : Draft) → ¬ IsTaken draft words next
-    not_taken next (_, (m, is, into)) =
+    not_taken : (next : Draft) → ¬ IsTaken conf_grammar draft words next
+    not_taken next (m, (_, is), into) =
         let same : m ≡ l = sym (same_read l m (read.only m is)) in
         let P : Line → Type 0 = λ k. IsTakenInto draft k next in
         not_unfit draft l next (subst P same into) unfit
 
 -- a line that is not read is due
 pub misread_due : (draft : Draft) (words : List (List ℕ)) (refusal : Refusal) → is_closed_to draft words ≡ false → IsReadOr 1 IsConfLine words (Err refusal) → IsDue draft words refusal
-misread_due draft words (At told) unclosed read = misread_alone draft words told unclosed read
+misread_due draft words (At told) unclosed read =
+    let (place, refused, same) = read.refused in
+    (place, refused_first draft words place (refused_in draft words place unclosed refused), omega (arith, same))
 misread_due draft words NoMemory unclosed read = tt
 
 -- a line that is not taken is due
 pub untaken_due : (draft : Draft) (words : List (List ℕ)) (l : Line) (why : Untaken) → is_closed_to draft words ≡ false → IsReadOr 1 IsConfLine words (Ok l) → IsUntaken draft l why
     → IsDue draft words (refusal_of why words)
-untaken_due draft words l Full unclosed read why = full_alone draft words l unclosed read why
-untaken_due draft words l Unfit unclosed read why = unfit_alone draft words l (told_number (length words + 1)) unclosed read why refl
+untaken_due draft words l Full unclosed read why = (0, full_alone draft words l unclosed read why, refl)
+untaken_due draft words l Unfit unclosed read why = (length words, unfit_alone draft words l unclosed read why, refl)
 untaken_due draft words l untaken.NoMemory unclosed read why = tt

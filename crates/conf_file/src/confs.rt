@@ -1,8 +1,9 @@
 ghost use Rattle.std.specs.Prelude.{◌≡◌, ℕ, Ok, Err, IfOk, IfErr};
-ghost use Rattle.conf_file.specs.ConfTexts.{IsConfText, IsFault, IsRefusedText, IsUnlessNoMemory, fault_of};
+ghost use Rattle.refusals.specs.Told.{IsUnless};
+ghost use Rattle.conf_file.specs.ConfTexts.{IsConfText, IsFault, IsRefusedText, fault_of};
 ghost use Rattle.conf_file.specs.Drafts.{IsConfOf, listen_of};
 ghost use Rattle.conf_file.specs.declared.conf.Conf.{Conf};
-ghost use Rattle.conf_file.specs.declared.confs.ConfFault.TheVariants.{At};
+ghost use Rattle.conf_file.specs.declared.confs.ConfFault.TheVariants.{At, NoMemory};
 
 use crate::conf::Conf;
 use crate::drafts::{Draft, rate_with};
@@ -43,12 +44,12 @@ impl From<AllocError> for ConfFault {
 /// don't fit each other after its last word.
 pub fn read_conf(alloc: Global, text: &[u8]) -> Result<Conf, ConfFault>
     ensures found { IfOk result (IsConfText text.now) }
-    ensures only { (conf : Conf) → IsConfText text.now conf → IsUnlessNoMemory result (Ok conf) }
+    ensures only { (conf : Conf) → IsConfText text.now conf → IsUnless NoMemory result (Ok conf) }
 
     // The refusals: want of memory comes freely, and the place exactly.
     ensures refused { IfErr result (IsFault text.now) }
     ensures refused_only { (line word : ℕ) → IsRefusedText text.now line word
-        → IsUnlessNoMemory result (Err (At line word)) }
+        → IsUnless NoMemory result (Err (At line word)) }
 {
     let mut draft = Draft::new(alloc)?;
     let mut lines = Lines::of(text);

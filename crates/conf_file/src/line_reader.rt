@@ -2,7 +2,8 @@ ghost use Rattle.std.specs.Prelude.{◌≡◌, ◌+◌, length, OnOk, IfErr};
 ghost use Rattle.refusals.specs.Told.{told_number};
 ghost use Rattle.text_words.specs.Words.{words_of};
 ghost use Rattle.conf_file.specs.ConfLines.{IsConfLine, IsReadOr};
-ghost use Rattle.conf_file.specs.ConfTexts.{IsDue, IsTakenAlone, refusal_of};
+ghost use Rattle.refusals.specs.Lines.{IsTakenAlone};
+ghost use Rattle.conf_file.specs.ConfTexts.{IsDue, conf_grammar, refusal_of};
 ghost use Rattle.conf_file.specs.Drafts.{is_closed_to};
 
 use crate::drafts::{Draft, Untaken};
@@ -14,7 +15,8 @@ use text_words::Words;
 
 /// Takes a line of a configuration file.
 pub fn take_line(alloc: Global, draft: &mut Draft, line: &[u8]) -> Result<(), Refusal>
-    ensures taken { OnOk result (IsTakenAlone draft.old (words_of line.now) draft.new) }
+    ensures taken { OnOk result (IsTakenAlone conf_grammar draft.old (words_of line.now)
+        draft.new) }
     ensures refused { IfErr result (IsDue draft.old (words_of line.now)) }
 {
     if is_line_closed(draft, line) {

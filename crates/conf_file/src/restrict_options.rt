@@ -4,9 +4,7 @@ ghost use Rattle.conf_file.specs.declared.options.Value.TheVariants.{Alone};
 ghost use Rattle.conf_file.specs.RestrictOptions.{flag_rules, flags_of};
 
 use crate::options::{OptionRule, Options};
-use access_rules::{
-    IGNORE, KOD, LIMITED, NOMODIFY, NOMRULIST, NOQUERY, NOSERVE, NOTRUST, VERSION,
-};
+use access_rules::{IGNORE, KOD, LIMITED, NOMODIFY, NOMRULIST, NOQUERY, NOSERVE, NOTRUST, VERSION};
 use net_addr::Prefix;
 
 /// Flags that are added to the rule of one prefix, or of two.

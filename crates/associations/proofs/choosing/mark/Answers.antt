@@ -1,5 +1,5 @@
 use Rattle.std.proofs.Common.{ℕ, arith}
-use Rattle.associations.specs.Choices.{marked_one}
+use Rattle.associations.specs.Marks.{marked_one}
 use Rattle.associations.specs.declared.association.Association.{Association}
 use Rattle.associations.proofs.NumberLemmas.{changed_all, changed_more}
 use Rattle.associations.proofs.TakingLemmas.{All-changed}

@@ -2,7 +2,7 @@ use Rattle.std.proofs.Common.{◌≡◌, ◌++◌, ℕ, drop, map, take}
 use Rattle.std.specs.List.{All}
 use Rattle.associations.specs.Associations.{IsAssociation}
 use Rattle.associations.specs.Candidates.{numbered}
-use Rattle.associations.specs.Choices.{marked_one}
+use Rattle.associations.specs.Marks.{marked_one}
 use Rattle.associations.specs.declared.association.Association.{Association}
 use Rattle.associations.proofs.choosing.mark.Given as goal
 

@@ -4,9 +4,11 @@ use Rattle.std.specs.List.{All, Contains}
 use Rattle.select_cluster.specs.declared.candidates.Candidate.{Candidate}
 use Rattle.associations.specs.Associations.{IsAssociation}
 use Rattle.associations.specs.Candidates.{candidates_of}
-use Rattle.associations.specs.Choices.{IsChoice, marked, survivors_in}
+use Rattle.associations.specs.Choices.{IsChoice, survivors_in}
 use Rattle.associations.specs.Settling.{case_of, forgotten, is_stepped, peers_by}
 use Rattle.associations.proofs.ChoosingLemmas.{system_near}
+use Rattle.associations.proofs.MarkLemmas.{marked_are}
+use Rattle.associations.specs.Marks.{marked}
 use Rattle.associations.proofs.settling.settle_all.Goals as goal
 use Rattle.associations.proofs.settling.settle_all.Goals.{then-settled, else-settled}
 
@@ -42,6 +44,8 @@ returns-clause-settled c =
       there = ap (slice_get c.args.list.now) (sym place) ∙ slice_get-get_or c.args.list.now (c.from.result - 1) c.index-list-from.result (omega arith);
       choice = c.choose-choice.result;
       chosen = subst (λ (cs : List Candidate). IsChoice cs c.choose-choice.result) seen c.choose-choice.ensures.chosen;
+      marks = marked c.choose-choice.result c.args.moment c.args.list.now;
+      marked = marked_are c.choose-choice.result c.args.moment c.args.list.now;
       others = others c;
       steered = c.apply_choice-settled.ensures.steered;
       shown = c.apply_choice-settled.ensures.shown;

@@ -83,27 +83,27 @@ words-preserved c =
     let named = rule_named c.args.rules.now c.in-Some.name.now c.in-Some-rule_in.rule.now (sym c.in-Some-rule_in.ensures) in
     elim c.match-rule.branch [
       | in-Alone w ↦
-        let value : c.in-Some-rule_in.rule.now.value ≡ Alone w.in-Alone.own = cc in
-        let is : c.match-rule.given ≡ c.words.given ++ record { name = c.in-Some.name.now; number = w.in-Alone.own } ∷ [] =
-        w.given-is ∙ w.push.ensures ∙ ap (λ n. c.words.given ++ record { name = n; number = w.in-Alone.own } ∷ []) named in
-        record {
-          low = omega (arith, c.saturating_add-number-in-Some.ensures);
-          once = rw is (once_more c.words.given c.in-Some.name.now w.in-Alone.own c.words.invariant.once new);
-          known = rw is (known_next c.args.rules.now c.words.given c.in-Some.name.now w.in-Alone.own c.in-Some-rule_in.rule.now c.words.invariant.known (sym c.in-Some-rule_in.ensures));
-          read = rw (is, w.words-is) (alone_step c.args.fewest c.args.rules.now c.args.first c.words.number c.saturating_add-number-in-Some.result c.args.words.now c.words.words c.next.new.self c.words.given
-          c.in-Some.name.now w.in-Alone.own c.in-Some-rule_in.rule.now c.words.invariant.read c.in-Some.ensures.word (sym c.in-Some-rule_in.ensures) value (c.saturating_add-number-in-Some.ensures ∙ ap (λ n. min (n + 1) (2 ^ 32 - 1)) w.number-is) c.words.invariant.low);
-        }
+          let value : c.in-Some-rule_in.rule.now.value ≡ Alone w.in-Alone.own = cc in
+          let is : c.match-rule.given ≡ c.words.given ++ record { name = c.in-Some.name.now; number = w.in-Alone.own } ∷ [] =
+          w.given-is ∙ w.push.ensures ∙ ap (λ n. c.words.given ++ record { name = n; number = w.in-Alone.own } ∷ []) named in
+          record {
+            low = omega (arith, c.saturating_add-number-in-Some.ensures);
+            once = rw is (once_more c.words.given c.in-Some.name.now w.in-Alone.own c.words.invariant.once new);
+            known = rw is (known_next c.args.rules.now c.words.given c.in-Some.name.now w.in-Alone.own c.in-Some-rule_in.rule.now c.words.invariant.known (sym c.in-Some-rule_in.ensures));
+            read = rw (is, w.words-is) (alone_step c.args.fewest c.args.rules.now c.args.first c.words.number c.saturating_add-number-in-Some.result c.args.words.now c.words.words c.next.new.self c.words.given
+                c.in-Some.name.now w.in-Alone.own c.in-Some-rule_in.rule.now c.words.invariant.read c.in-Some.ensures.word (sym c.in-Some-rule_in.ensures) value (c.saturating_add-number-in-Some.ensures ∙ ap (λ n. min (n + 1) (2 ^ 32 - 1)) w.number-is) c.words.invariant.low);
+          }
       | in-Number+in-Some-next+in-Some-read_decimal_within w ↦
-        let value : c.in-Some-rule_in.rule.now.value ≡ Number w.in-Number.least w.in-Number.most = cc in
-        let is : c.match-rule.given ≡ c.words.given ++ record { name = c.in-Some.name.now; number = w.in-Some-read_decimal_within.own } ∷ [] =
-        w.given-is ∙ w.push-in-Number.ensures ∙ ap (λ n. c.words.given ++ record { name = n; number = w.in-Some-read_decimal_within.own } ∷ []) named in
-        record {
-          low = omega (arith, c.saturating_add-number-in-Some.ensures);
-          once = rw is (once_more c.words.given c.in-Some.name.now w.in-Some-read_decimal_within.own c.words.invariant.once new);
-          known = rw is (known_next c.args.rules.now c.words.given c.in-Some.name.now w.in-Some-read_decimal_within.own c.in-Some-rule_in.rule.now c.words.invariant.known (sym c.in-Some-rule_in.ensures));
-          read = rw (is, w.words-is) (number_step c.args.fewest c.args.rules.now c.args.first c.words.number w.saturating_add-number.result c.saturating_add-number-in-Some.result c.args.words.now c.words.words c.next.new.self
-          w.next-in-Number.new.self c.words.given c.in-Some.name.now w.in-Some-next.word.now w.in-Number.least w.in-Number.most w.in-Some-read_decimal_within.own c.in-Some-rule_in.rule.now c.words.invariant.read
-          c.in-Some.ensures.word (sym c.in-Some-rule_in.ensures) value w.saturating_add-number.ensures c.words.invariant.low w.in-Some-next.ensures.word w.in-Some-read_decimal_within.ensures.found (omega arith)
-          (c.saturating_add-number-in-Some.ensures ∙ ap (λ n. min (n + 1) (2 ^ 32 - 1)) w.number-is));
-        }
+          let value : c.in-Some-rule_in.rule.now.value ≡ Number w.in-Number.least w.in-Number.most = cc in
+          let is : c.match-rule.given ≡ c.words.given ++ record { name = c.in-Some.name.now; number = w.in-Some-read_decimal_within.own } ∷ [] =
+          w.given-is ∙ w.push-in-Number.ensures ∙ ap (λ n. c.words.given ++ record { name = n; number = w.in-Some-read_decimal_within.own } ∷ []) named in
+          record {
+            low = omega (arith, c.saturating_add-number-in-Some.ensures);
+            once = rw is (once_more c.words.given c.in-Some.name.now w.in-Some-read_decimal_within.own c.words.invariant.once new);
+            known = rw is (known_next c.args.rules.now c.words.given c.in-Some.name.now w.in-Some-read_decimal_within.own c.in-Some-rule_in.rule.now c.words.invariant.known (sym c.in-Some-rule_in.ensures));
+            read = rw (is, w.words-is) (number_step c.args.fewest c.args.rules.now c.args.first c.words.number w.saturating_add-number.result c.saturating_add-number-in-Some.result c.args.words.now c.words.words c.next.new.self
+                w.next-in-Number.new.self c.words.given c.in-Some.name.now w.in-Some-next.word.now w.in-Number.least w.in-Number.most w.in-Some-read_decimal_within.own c.in-Some-rule_in.rule.now c.words.invariant.read
+                c.in-Some.ensures.word (sym c.in-Some-rule_in.ensures) value w.saturating_add-number.ensures c.words.invariant.low w.in-Some-next.ensures.word w.in-Some-read_decimal_within.ensures.found (omega arith)
+                (c.saturating_add-number-in-Some.ensures ∙ ap (λ n. min (n + 1) (2 ^ 32 - 1)) w.number-is));
+          }
     ]

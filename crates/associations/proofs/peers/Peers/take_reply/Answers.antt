@@ -20,9 +20,9 @@ returns-in-Err-clause-after c = λ reading is.
 
 pub returns-in-Err-clause-malformed : goal.returns-in-Err-clause-malformed
 returns-in-Err-clause-malformed c = (
-    λ is. (search rules, λ reply read. early_not_malformed c.index.result.now reply.header c.in-Err.fault (c.in-Err.ensures.fault (Some reply) read) cc),
-    λ both. let same = c.in-Err.ensures.fault None both.1 in cc
-  )
+  λ is. (search rules, λ reply read. early_not_malformed c.index.result.now reply.header c.in-Err.fault (c.in-Err.ensures.fault (Some reply) read) cc),
+  λ both. let same = c.in-Err.ensures.fault None both.1 in cc,
+)
 
 pub returns-in-Ok-clause-answer : goal.returns-in-Ok-clause-answer
 returns-in-Ok-clause-answer c = λ reading is.
@@ -38,6 +38,6 @@ returns-in-Ok-clause-after c = λ reading is.
 
 pub returns-in-Ok-clause-malformed : goal.returns-in-Ok-clause-malformed
 returns-in-Ok-clause-malformed c = (
-    λ is. let decided = subst (λ (r : Result TakenReply ReplyFault). IfErr r IsDecided) is c.judge_at.ensures.decided in absurd (decided.1 refl),
-    λ both. let same = c.in-Ok.ensures.only None both.1 in cc
-  )
+  λ is. let decided = subst (λ (r : Result TakenReply ReplyFault). IfErr r IsDecided) is c.judge_at.ensures.decided in absurd (decided.1 refl),
+  λ both. let same = c.in-Ok.ensures.only None both.1 in cc,
+)
