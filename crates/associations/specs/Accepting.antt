@@ -38,7 +38,7 @@ abbrev pub with_reply : Association → JudgedPacket → Ntp64 → Association
 with_reply server reply destination =
     record (with_header server reply) { received = destination; pending = None; reach = reach_after_reply server.reach }
 
--- and where the reach register was empty, the server has become reachable
+-- a server with a reply that is taken over: where the reach register was empty, it has become reachable
 abbrev pub taken_over : Association → JudgedPacket → Ntp64 → Association
 taken_over server reply destination =
     if server.reach == 0 then with_event REACHABLE (with_reply server reply destination) else with_reply server reply destination
@@ -64,7 +64,7 @@ abbrev pub accepted : Association → JudgedPacket → Ntp64 → ℕ → Associa
 accepted server reply destination moment =
     sampled (taken_over server reply destination) (sample_by reply.header destination moment) moment
 
--- its sample gives an estimate
+-- the sample of a reply gives an estimate
 abbrev pub is_fresh : Association → JudgedPacket → Ntp64 → ℕ → Bool
 is_fresh server reply destination moment = gives_estimate server.filter (sample_by reply.header destination moment) moment
 
@@ -76,7 +76,7 @@ judged_by (Some fault) server reply destination moment = refused fault server
 abbrev pub judged : Association → JudgedPacket → Ntp64 → ℕ → Association
 judged server reply destination moment = judged_by (first_fault_of server reply) server reply destination moment
 
--- and the verdict: the fault, or whether there is a new estimate
+-- the verdict on a reply: the fault, or whether there is a new estimate
 abbrev pub verdict_by : Option ReplyFault → Bool → Result Bool ReplyFault
 verdict_by None fresh = Ok fresh
 verdict_by (Some fault) fresh = Err fault

@@ -65,6 +65,6 @@ runs_empty reach = not (reach == 0) && (reach_after_request reach == 0)
 abbrev pub awaiting : Association → Ntp64 → Association
 awaiting server transmit = record server { pending = Some transmit; reach = reach_after_request server.reach }
 
--- and where the reach register ran empty by it, the server is no longer reachable
+-- a server after a request: a reply is awaited, the reach register has shifted, and where it ran empty the server is no longer reachable
 abbrev pub asked : Association → Ntp64 → Association
 asked server transmit = if runs_empty server.reach then with_event UNREACHABLE (awaiting server transmit) else awaiting server transmit

@@ -20,11 +20,11 @@ near_candidate peer server estimate distance =
     then Some (record { peer = peer; stratum = server.stratum; offset = estimate.offset; distance = distance; jitter = estimate.jitter })
     else None
 
--- and where one of its last eight requests was answered
+-- a server with an estimate is a candidate where one of its last eight requests was answered and its root distance is under the threshold
 abbrev pub reached_candidate : ℕ → Association → Estimate → ℕ → Option Candidate
 reached_candidate peer server estimate moment = if server.reach == 0 then None else near_candidate peer server estimate (distance_of server estimate moment)
 
--- and where it has an estimate
+-- a server is a candidate where it has an estimate, was reached and is near
 abbrev pub candidate_by : Option Estimate → ℕ → ℕ → Association → Option Candidate
 candidate_by None moment peer server = None
 candidate_by (Some estimate) moment peer server = reached_candidate peer server estimate moment
@@ -40,6 +40,6 @@ numbered peers = enumerate_from 1 peers
 abbrev pub candidates_of : ℕ → List Association → List Candidate
 candidates_of moment peers = filter_map (λ (np : ℕ × Association). candidate_of moment np.0 np.1) (numbered peers)
 
--- its root distance, by the estimate that it shows, is under the threshold
+-- the root distance of a server, by the estimate that it shows, is under the threshold
 abbrev pub IsNear : ℕ → Association → Type 0
 IsNear moment server = distance_of server (estimate_shown server.estimate) moment < MAX_DISTANCE

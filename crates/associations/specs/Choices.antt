@@ -40,7 +40,7 @@ abbrev pub IsInside : Choice → Candidate → Type 0
 IsInside NoMajority candidate = ⊥
 IsInside (Majority interval survivors) candidate = IsTrue (inside interval.lo interval.hi candidate)
 
--- and clustering leaves its server
+-- the offset of a candidate is in that interval, and clustering leaves its server
 abbrev pub IsSurvivor : Choice → Candidate → Type 0
 IsSurvivor choice candidate = IsInside choice candidate × IsTrue (is_among candidate.peer (survivors_in choice))
 

@@ -13,7 +13,7 @@ use Rattle.associations.specs.declared.association.Association.{Association}
 use Rattle.associations.specs.declared.judging.ReplyFault.{ReplyFault}
 use Rattle.associations.specs.declared.judging.ReplyFault.TheVariants.{NoSuchPeer, Malformed, Duplicate, Bogus, BadAuth, Kiss, Unsynchronised, TooFar}
 
--- its transmit timestamp is the last one that was taken, other than 0
+-- the transmit timestamp of a reply is the last one that was taken, other than 0
 abbrev pub is_duplicate : Association → Header → Bool
 is_duplicate server header = not (header.transmit.0 == 0) && (header.transmit.0 == server.transmit.0)
 
@@ -22,7 +22,7 @@ abbrev pub is_awaited : Option Ntp64 → Ntp64 → Bool
 is_awaited None origin = false
 is_awaited (Some transmit) origin = origin.0 == transmit.0
 
--- its origin timestamp is not that of a request that waits
+-- the origin timestamp of a reply is not that of a request that waits
 abbrev pub is_bogus : Association → Header → Bool
 is_bogus server header = not (is_awaited server.pending header.origin)
 
@@ -59,7 +59,7 @@ early_fault_of server header =
     else (if is_bogus server header then Some Bogus
     else None)
 
--- and the first of those that are decided after it
+-- the first fault of a reply that is decided after its MAC was looked at
 abbrev pub late_fault_of : Association → JudgedPacket → Option ReplyFault
 late_fault_of server reply =
     if is_unproven server reply then Some BadAuth

@@ -10,7 +10,7 @@ use Rattle.ntp_packet.specs.Packet.{spelled_header}
 use Rattle.ntp_trailer.specs.Authentic.{spelled_mac}
 use Rattle.sys_vars.specs.declared.system.TheConstants.{PRECISION}
 
--- its header: the current version, a client's mode, the line's poll, our precision and the transmit timestamp; all else is 0
+-- the header of a request: the current version, a client's mode, the line's poll, our precision and the transmit timestamp; all else is 0
 unfoldable pub request_header : ServerLine → Ntp64 → Header
 request_header line transmit = record {
   leap = 0;

@@ -29,11 +29,11 @@ peer_at peers peer = slice_get peers (peer - 1)
 abbrev pub place_for : List Association → Addr → ℕ
 place_for peers from = unwrap_or (position (λ server. same_addr server.line.addr from) peers) (length peers)
 
--- the association number of that peer, if there is one
+-- the association number of the first peer of this address, if there is one
 abbrev pub line_for : List Association → Addr → Option ℕ
 line_for peers from = if nat_lt (place_for peers from) (length peers) then Some (place_for peers from + 1) else None
 
--- that peer, if there is one
+-- the first peer of this address, if there is one
 abbrev pub sender_of : List Association → Addr → Option Association
 sender_of peers from = slice_get peers (place_for peers from)
 

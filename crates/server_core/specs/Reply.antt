@@ -66,7 +66,7 @@ reply_end keys Bad header = replicate KEY_ID_LEN 0
 abbrev pub ended : List Key → Auth → List ℕ → List ℕ
 ended keys auth header = header ++ reply_end keys auth header
 
--- the octets of that reply
+-- the octets of the reply to a request that came at one moment and is answered at another: a header, and behind it what the MAC of the request is due
 unfoldable pub time_reply_of : Basis → Ask → List Key → ℕ → ℕ → List ℕ
 time_reply_of basis ask keys came sent =
     ended keys ask.auth (spelled_header (reply_header basis ask came sent))
@@ -110,6 +110,6 @@ rate_header ask = record {
   transmit = ask.transmit;
 }
 
--- the octets of that reply, which has no MAC
+-- the octets of the kiss code RATE, which has no MAC
 unfoldable pub rate_reply_of : Ask → List ℕ
 rate_reply_of ask = spelled_header (rate_header ask)

@@ -48,7 +48,7 @@ visit_of rec ask = record {
   rate = rec.rate;
 }
 
--- what a reply is made of
+-- what a reply is made of: the system and the clock of one record
 abbrev pub basis_of : Record → Basis
 basis_of rec = record { system = rec.system; clock = rec.clock }
 
