@@ -140,3 +140,14 @@ IsServed-HasCome common (Silent why) events readings status faults faults' quiet
 IsServed-HasCome common (Failed NoMemory) events readings status faults faults' quiets quiets' is_closed sink sink' old new (inl comes) causes (inl (is, whole)) failed came port_well sink_well = inr is
 IsServed-HasCome common (Failed Port) events readings status faults faults' quiets quiets' is_closed sink sink' old new (inl comes) causes (inl (is, whole)) failed came port_well sink_well = absurd (port_well (causes.failed refl))
 IsServed-HasCome common (Failed _) events readings status faults faults' quiets quiets' is_closed sink sink' old new (inl comes) causes (inl (is, whole)) failed came port_well sink_well = absurd comes.follows
+
+-- a datagram that was given, or could not be, is what is done about a response of just that one
+pub GivesResponse-one : (keys : List Key) (came sent : ℕ) (response : Response) (ending : Ending) (to : Addr) (gram : List ℕ) (events : List Event) → grams_of keys came sent response ≡ gram ∷ [] → GivesOne ending to gram events → GivesResponse keys came response ending to events (sent ∷ [])
+GivesResponse-one keys came sent response (Answered count) to gram events one gives = (gram, sent, one, gives.0, gives.1, refl)
+GivesResponse-one keys came sent response (Silent why) to gram events one gives = absurd gives
+GivesResponse-one keys came sent response (Failed Words) to gram events one gives = absurd gives
+GivesResponse-one keys came sent response (Failed Host) to gram events one gives = absurd gives
+GivesResponse-one keys came sent response (Failed Port) to gram events one gives = (gram, sent, one, gives, refl)
+GivesResponse-one keys came sent response (Failed Quiet) to gram events one gives = absurd gives
+GivesResponse-one keys came sent response (Failed Closed) to gram events one gives = absurd gives
+GivesResponse-one keys came sent response (Failed NoMemory) to gram events one gives = gives

@@ -124,7 +124,7 @@ fn serve_next<P: Port, C: Clock>(
 {
     let mut datagram = Octets::new();
     match wait_for_datagram(port, &mut datagram) {
-        Ok(from) => serve_datagram(alloc, port, clock, common, book, &from, &datagram),
+        Ok(from) => serve_datagram(alloc, port, clock, common, book, &from, &mut datagram),
         Err(why) => Ending::Failed(why),
     }
 }
@@ -154,7 +154,8 @@ fn wait_for_datagram<P: Port>(port: &mut P, into: &mut Octets) -> Result<Addr, F
 }
 
 /// Serves a datagram from this address by this server. The clock is read before the datagram is
-/// classed, and again where anything is given.
+/// classed, and again where anything is given; then the datagram's octets may make room for those of
+/// the reply.
 fn serve_datagram<P: Port, C: Clock>(
     alloc: Global,
     port: &mut P,
@@ -162,19 +163,19 @@ fn serve_datagram<P: Port, C: Clock>(
     common: &Common,
     book: &mut Book,
     from: &Addr,
-    datagram: &Octets,
+    datagram: &mut Octets,
 ) -> Ending
     requires most { 1024 ≤ P.most port.old }
     requires open { IsOpen book.old }
     ensures follows { (events : List Event) × (readings : List ℕ)
-        × Follows common.now book.old.state result from.now datagram.now events readings
+        × Follows common.now book.old.state result from.now datagram.old events readings
         × (P.trace port.new ≡ gained (P.trace port.old) events)
         × Grows (C.readings clock.old) (C.readings clock.new) readings }
 
     // A datagram that is not heard leaves the server as it was.
     ensures silent { (why : Unheard)
         → (context : Context)
-        → IsClass datagram.now from.now common.now.keys context (Class.Silent why)
+        → IsClass datagram.old from.now common.now.keys context (Class.Silent why)
         → book.new ≡ book.old }
 
     ensures causes { Causes result (P.faults port.old) (P.faults port.new)
@@ -192,7 +193,7 @@ fn serve_datagram<P: Port, C: Clock>(
         datagram.as_slice(),
     ) {
         Err(_) => Ending::Failed(Failure::NoMemory),
-        Ok(response) => send_response(port, clock, &common.keys, came, &response, from),
+        Ok(response) => send_response(port, clock, &common.keys, came, &response, from, datagram),
     }
 }
 

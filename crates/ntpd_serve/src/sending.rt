@@ -9,9 +9,10 @@ use crate::ending::{Ending, Failure};
 use edge_traits::{Clock, Octets, Port, PortFault};
 use mac_keys::KeyTable;
 use net_addr::Addr;
-use server_core::{Response, rate_reply, time_reply};
+use server_core::{Response, rate_reply_into, time_reply_into};
 
-/// Gives the response to what came at this moment. The clock is read where anything is given.
+/// Gives the response to what came at this moment. The clock is read where anything is given, and a
+/// reply to a request for the time is spelled into `lent`, in place of what was there.
 pub fn send_response<P: Port, C: Clock>(
     port: &mut P,
     clock: &mut C,
@@ -19,6 +20,7 @@ pub fn send_response<P: Port, C: Clock>(
     came: u64,
     response: &Response,
     to: &Addr,
+    lent: &mut Octets,
 ) -> Ending
     requires most { 1024 ≤ P.most port.old }
     requires givable { IsGivable keys.now response.now }
@@ -34,11 +36,13 @@ pub fn send_response<P: Port, C: Clock>(
         Response::Silent(why) => Ending::Silent(*why),
         Response::Time(ask, basis) => {
             let sent = clock.now();
-            send(port, to, &time_reply(basis, ask, keys, came, sent))
+            time_reply_into(basis, ask, keys, came, sent, lent);
+            send(port, to, lent)
         }
         Response::Rate(ask) => {
             let _sent = clock.now();
-            send(port, to, &rate_reply(ask))
+            rate_reply_into(ask, lent);
+            send(port, to, lent)
         }
         Response::Grams(grams) => {
             let _sent = clock.now();
@@ -108,9 +112,12 @@ mod tests {
         let mut out = MemorySink::of(alloc, Vec::new(alloc));
         let keys = KeyTable::new(alloc);
         let response = response_by(ASK, verdict);
-        let ending = send_response(&mut port, &mut clock, &keys, SECOND, &response, &ASK.from);
-        let _status = report(&ending, &mut out);
         let mut gram = Octets::new();
+        let ending = send_response(
+            &mut port, &mut clock, &keys, SECOND, &response, &ASK.from, &mut gram,
+        );
+        let _status = report(&ending, &mut out);
+        gram.clear();
         for event in port.events() {
             if let Event::Sent(_, octets) = event {
                 gram = octets.copy();
