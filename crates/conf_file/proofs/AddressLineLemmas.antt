@@ -1,5 +1,5 @@
 -- Readings of what follows an address in a `restrict` line.
-use Rattle.std.proofs.Common.{◌≡◌, ℕ, ◌+◌, ◌^◌, ◌<◌, List, [], ◌∷◌, true, false, Some, None, Result, Ok, Err, codes, bytes_eq, refl, sym, subst, arith}
+use Rattle.std.proofs.Common.{◌≡◌, ℕ, ◌+◌, ◌^◌, ◌<◌, List, [], ◌∷◌, true, false, Some, None, Result, Ok, Err, codes, bytes_eq, refl, subst, arith}
 use Rattle.net_addr.specs.declared.addr.Ip.{Ip}
 use Rattle.net_addr.specs.declared.prefix.Prefix.{Prefix}
 use Rattle.net_addr.specs.Addresses.{bits_of}

@@ -1,5 +1,8 @@
 -- Configuration files: what lines leave to read.
-use Rattle.std.proofs.Common.{◌≡◌, ℕ, ◌+◌, ◌-◌, ◌^◌, min, map, List, [], ◌∷◌, Option, Some, None, Ok, Err, refl, sym, ap, subst, ◌∙◌, arith, inl, inr}
+use Rattle.std.proofs.Common.{◌≡◌, ℕ, ◌+◌, ◌-◌, ◌^◌, min, map, List, [], ◌∷◌, Option, Some, None, Ok, Err, sym, ap, subst, ◌∙◌, inl, inr}
+use Rattle.std.specs.Option.{ForSome}
+use mathlib.Core.HLevel.{is_prop→PathP}
+use Rattle.discipline.specs.Frequency.{IsFrequency}
 use Rattle.text_words.specs.Lines.{lines_of}
 use Rattle.text_words.specs.Words.{lines_as_words, words_of}
 use Rattle.access_rules.specs.declared.rules.Rule.{Rule}
@@ -18,6 +21,7 @@ use Rattle.refusals.proofs.LineLemmas.{IsReadTo, read_all, read_more, read_none,
 use Rattle.conf_file.specs.ConfTexts.{IsDue, IsConfText, IsFault, IsRefusedText, conf_grammar, fault_of}
 use Rattle.conf_file.specs.Drafts.{IsConfOf, IsLimitsOr, IsOpening}
 use Rattle.conf_file.proofs.AddressLemmas.{prefix-one}
+use Rattle.conf_file.proofs.FrequencyLemmas.{bounded_prop}
 use Rattle.conf_file.proofs.LimitLemmas.{limits-one}
 
 -- a rule of a whole family is known
@@ -61,7 +65,7 @@ conf-one draft one other is also =
     let keys : one.keys ≡ other.keys = is.keys ∙ sym also.keys in
     let local : one.local ≡ other.local = is.local ∙ sym also.local in
     let freq : one.freq ≡ other.freq = is.freq ∙ sym also.freq in
-    λ i. record { listen = listen i; servers = servers i; rules = rules i; rate = rate i; limits = limits i; keys = keys i; local = local i; freq = freq i }
+    λ i. record { listen = listen i; servers = servers i; rules = rules i; rate = rate i; limits = limits i; keys = keys i; local = local i; freq = freq i; bounded = is_prop→PathP (λ j. ForSome (freq j) IsFrequency) (λ j. bounded_prop (freq j)) one.bounded other.bounded i }
 
 -- so many lines of a text are read after an opening, and made this draft
 pub record AreReadTo (text : List ℕ) (lines : List (List ℕ)) (number : ℕ) (draft : Draft) : Type 0 where

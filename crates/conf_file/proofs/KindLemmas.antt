@@ -1,11 +1,10 @@
 -- The kind of a line is that of its first word.
-use Rattle.std.proofs.Common.{◌≡◌, ℕ, List, [], ◌∷◌, Bool, true, false, Option, Some, None, sym, ap, subst, ◌∙◌, inl, inr, codes, bytes_eq}
+use Rattle.std.proofs.Common.{◌≡◌, ℕ, List, [], ◌∷◌, Bool, true, false, Option, Some, None, ap, subst, ◌∙◌, inl, inr, codes, bytes_eq}
 use Rattle.net_addr.specs.declared.addr.Ip.{Ip}
 use Rattle.net_addr.specs.declared.prefix.Prefix.{Prefix}
 use Rattle.conf_file.specs.declared.kinds.Kind.{Kind}
 use Rattle.conf_file.specs.declared.kinds.Kind.TheVariants as kind
 use Rattle.conf_file.specs.declared.lines.Line.{Line}
-use Rattle.conf_file.specs.declared.lines.Line.TheVariants as line
 use Rattle.conf_file.specs.declared.drafts.Draft.{Draft}
 use Rattle.conf_file.specs.declared.families.Family.{Family}
 use Rattle.conf_file.specs.declared.families.Family.TheVariants.{Both}

@@ -2,10 +2,10 @@ pub mod AddressLemmas
 pub mod AddressLineLemmas
 pub mod ConfTextLemmas
 pub mod DraftLemmas
+pub mod FrequencyLemmas
 pub mod KindLemmas
 pub mod LimitLemmas
 pub mod LineLemmas
-pub mod NumberLemmas
 pub mod OnlyLemmas
 pub mod OptionLemmas
 pub mod OptionLineLemmas

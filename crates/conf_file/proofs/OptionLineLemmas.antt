@@ -1,14 +1,14 @@
 -- Lines of options: what is made of those that are given, and tables that are sound.
-use Rattle.std.proofs.Common.{◌≡◌, ℕ, ◌^◌, ◌<◌, ◌≤◌, List, [], ◌∷◌, ◌++◌, Bool, true, false, cond, bytes_eq, bit_or, find, fold, map, take, drop, Option, Some, None, Result, Ok, Err, codes, decimal, refl, sym, ap, subst, ◌∙◌, lit≤, lit<, arith}
+use Rattle.std.proofs.Common.{◌≡◌, ℕ, ◌^◌, ◌<◌, ◌≤◌, List, [], ◌∷◌, Bool, true, false, cond, bytes_eq, bit_or, find, fold, map, take, drop, Option, Some, None, Result, Ok, Err, codes, decimal, refl, sym, ap, subst, ◌∙◌, lit≤, lit<, arith}
 use Rattle.std.specs.Option.{option_map, unwrap_or}
 use Rattle.std.proofs.lemmas.Nat.{or_lt}
 use Rattle.std.proofs.lemmas.Slice.Eq.{bytes_eq-Decides}
-use Rattle.refusals.specs.Refusals.{GoesOn, Stops, IsRefusedAt}
+use Rattle.refusals.specs.Refusals.{Stops, IsRefusedAt}
 use Rattle.conf_file.specs.declared.lines.Line.{Line}
 use Rattle.conf_file.specs.declared.options.Value.{Value}
 use Rattle.conf_file.specs.declared.options.Value.TheVariants.{Alone, Number}
 use Rattle.conf_file.specs.OptionRules.{Given, OptionWords}
-use Rattle.conf_file.specs.Options.{AreOptions, AreSound, IsBehind, IsGivenBy, IsOptionList, IsReadAs, IsRefusedFrom, number_of, rule_of}
+use Rattle.conf_file.specs.Options.{AreOptions, AreSound, IsBehind, IsGivenBy, IsOptionList, IsReadAs, number_of, rule_of}
 use Rattle.conf_file.specs.OptionLines.{IsOptionLine, limit_rules, mru_rules, server_rules}
 use Rattle.conf_file.specs.RestrictOptions.{flag_rules, flags_of}
 use Rattle.conf_file.proofs.ReadingLemmas.{read_refused}

@@ -1,13 +1,13 @@
 -- Options of a line, one after another: what is left is read as the whole is.
-use Rattle.std.proofs.Common.{◌≡◌, ℕ, ◌+◌, ◌-◌, ◌^◌, ◌<◌, ◌≤◌, min, List, [], ◌∷◌, ◌++◌, length, Bool, true, false, cond, bytes_eq, Result, Ok, Err, Option, Some, None, refl, sym, subst, arith}
+use Rattle.std.proofs.Common.{◌≡◌, ℕ, ◌+◌, ◌-◌, ◌^◌, ◌<◌, ◌≤◌, min, List, [], ◌∷◌, ◌++◌, length, Bool, true, false, cond, bytes_eq, Result, Ok, Err, Some, refl, sym, subst, arith}
 use Rattle.std.proofs.lemmas.List.{append-nil}
 use Rattle.text_words.specs.Numbers.{SpellsNumber}
 use Rattle.conf_file.specs.OptionRules.{Given, OptionWords}
-use Rattle.conf_file.specs.Options.{AreOnce, AreSound, AreSoundRules, IsNew, IsOptionList, IsReadAs, IsSound, rule_of}
+use Rattle.conf_file.specs.Options.{AreOnce, AreSound, AreSoundRules, IsOptionList, IsReadAs, IsSound, rule_of}
 use Rattle.conf_file.specs.declared.options.Value.{Value}
 use Rattle.conf_file.specs.declared.options.Value.TheVariants.{Number, Alone}
-use Rattle.conf_file.proofs.OptionLemmas.{IsRest, IsRestBehind, alone_leads, behind_ends, ended_rest, first_rest, leads_alone, name_leads, no_number, no_number_left, number_leads, rest_ends, rest_first}
-use Rattle.conf_file.proofs.ReadingLemmas.{read_bad, read_end, read_found, read_next, read_same}
+use Rattle.conf_file.proofs.OptionLemmas.{IsRest, IsRestBehind, alone_leads, ended_rest, first_rest, leads_alone, name_leads, number_leads, rest_ends, rest_first}
+use Rattle.conf_file.proofs.ReadingLemmas.{read_end, read_found, read_next, read_same}
 
 -- the words that are left after some options are read as all words are
 abbrev pub IsReadTo : ℕ → List OptionWords → ℕ → List (List ℕ) → ℕ → List Given → List (List ℕ) → Type 0

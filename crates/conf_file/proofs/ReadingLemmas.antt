@@ -1,5 +1,5 @@
 -- Readings of words: refused, found, and those that go on after a first word.
-use Rattle.std.proofs.Common.{◌-◌, min, arith, ◌≡◌, ℕ, ◌+◌, ◌^◌, ◌<◌, List, [], ◌∷◌, Option, Result, Ok, Err, IfOk, IfErr, refl, sym, ap, subst, lit<}
+use Rattle.std.proofs.Common.{◌-◌, min, arith, ◌≡◌, ℕ, ◌+◌, ◌^◌, ◌<◌, List, [], ◌∷◌, Result, Ok, Err, refl, sym, ap, subst}
 use Rattle.refusals.specs.Refusals.{GoesOn, refused_nowhere}
 use Rattle.conf_file.specs.Options.{IsReadAs, IsRefusedFrom}
 use Rattle.conf_file.proofs.RefusedLemmas.{LeadsTo, MeansAs, refused_after, refused_as, refused_end, refused_same, refused_word}

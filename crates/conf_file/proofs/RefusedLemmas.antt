@@ -1,5 +1,5 @@
 -- Where the words of a line are refused: at their end, at the first, after the first, as other words.
-use Rattle.std.proofs.Common.{◌≡◌, ℕ, zero, suc, ◌+◌, ◌-◌, ◌^◌, ◌<◌, List, [], ◌∷◌, ◌++◌, take, drop, Option, Some, None, sym, subst, arith, inl, inr}
+use Rattle.std.proofs.Common.{◌≡◌, ℕ, zero, suc, ◌+◌, ◌-◌, ◌^◌, ◌<◌, List, [], ◌∷◌, ◌++◌, take, drop, sym, subst, arith}
 use Rattle.refusals.specs.Refusals.{GoesOn, Stops, IsRefusedAt}
 use Rattle.conf_file.specs.Options.{IsRefusedFrom}
 

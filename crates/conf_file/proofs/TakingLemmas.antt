@@ -1,7 +1,6 @@
 -- Lines that are taken into a draft, and lines that are refused there.
-use Rattle.std.proofs.Common.{◌≡◌, ℕ, ◌+◌, zero, suc, ◌≤◌, List, [], ◌∷◌, ◌++◌, take, drop, length, Bool, true, false, Option, Some, Result, Ok, Err, refl, sym, ap, subst, ◌∙◌, inl, inr, arith, lit≤}
+use Rattle.std.proofs.Common.{◌≡◌, ℕ, zero, suc, ◌≤◌, List, [], ◌∷◌, take, drop, length, Bool, true, false, Option, Some, Result, Ok, Err, refl, sym, ap, subst, ◌∙◌, inl, inr, arith}
 use Rattle.refusals.specs.Refusals.{GoesOn, IsRefusedAt, Stops, one_place, refused_nowhere}
-use Rattle.refusals.specs.Told.{told_number}
 use Rattle.recency.specs.declared.limits.Limits.{Limits}
 use Rattle.recency.specs.declared.limits.TheConstants.{MAX_DEPTH}
 use Rattle.conf_file.specs.declared.drafts.Draft.{Draft}

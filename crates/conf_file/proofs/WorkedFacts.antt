@@ -1,5 +1,7 @@
 -- Worked words and lines, computed.
-use Rattle.std.proofs.Common.{◌≡◌, ℕ, List, [], ◌∷◌, ◌*◌, ◌^◌, Some, None, refl, negsuc, codes, decimal, lit≤, sym, subst}
+use Rattle.std.proofs.Common.{◌≡◌, ℕ, List, [], ◌∷◌, ◌*◌, ◌^◌, Some, None, refl, ℤ, negsuc, codes, decimal, ◌≤◌, lit<, lit≤, sym, subst, arith}
+use Rattle.std.proofs.lemmas.Fmt.{decimal_injective}
+use Rattle.conf_file.proofs.FrequencyLemmas.{minus_frequency, minus_number}
 use Rattle.refusals.specs.Refusals.{IsRefusedAt}
 use Rattle.conf_file.specs.declared.kinds.Kind.{Kind}
 use Rattle.conf_file.specs.declared.kinds.Kind.TheVariants as kind
@@ -8,7 +10,6 @@ use Rattle.conf_file.specs.declared.lines.Line.TheVariants as line
 use Rattle.conf_file.specs.ConfLines.{IsConfLine, IsTail}
 use Rattle.conf_file.specs.Drafts.{rate_of}
 use Rattle.conf_file.specs.Kinds.{kind_of}
-use Rattle.conf_file.specs.Numbers.{number_of}
 use Rattle.net_addr.specs.declared.addr.Addr.{Addr}
 use Rattle.conf_file.specs.OptionLines.{limit_rules, rate_with, server_with}
 use Rattle.conf_file.specs.OptionRules.{Given}
@@ -18,28 +19,22 @@ use Rattle.conf_file.specs.declared.lists.TheConstants.{MAX_LISTEN}
 use Rattle.conf_file.specs.declared.option_lines.TheConstants.{NTP_PORT}
 use Rattle.conf_file.specs.declared.options.Value.TheVariants.{Number}
 use Rattle.conf_file.specs.declared.rate_options.TheConstants.{MAX_AVERAGE, MAX_BURST, MAX_SPACING}
+use Rattle.conf_file.specs.declared.short_lines.TheConstants.{MAX_LOCAL_STRATUM}
 use Rattle.conf_file.specs.declared.server_options.TheConstants.{PLAIN_POLL}
-use Rattle.conf_file.specs.ShortLines.{IsOnly, SpellsLocal, signed_of}
+use Rattle.conf_file.specs.ShortLines.{IsFrequencyWord, IsOnly, SpellsLocal}
 
--- a number has no zero that says nothing, and stands within its bounds
-zero : number_of 0 86400 (codes "0") ≡ Some 0
-zero = refl
+-- a stratum stands within its bounds
+stratum_15 : SpellsLocal (decimal 15) (line.Local 15)
+stratum_15 = (15, (refl, lit≤ tt, lit≤ tt), refl)
 
-two_zeros : number_of 0 86400 (codes "00") ≡ None
-two_zeros = refl
+-- a frequency may have a minus, but 0 has none
+below_zero : IsFrequencyWord (45 ∷ decimal 1500) (negsuc 1499)
+below_zero = minus_frequency _ (decimal 1500) 1500 refl (refl, lit≤ tt, lit≤ tt)
 
-at_most : number_of 1 15 (codes "15") ≡ Some 15
-at_most = refl
-
-above : number_of 1 15 (codes "16") ≡ None
-above = refl
-
--- nor has a signed one a sign that says nothing
-below_zero : signed_of (codes "-1500") ≡ Some (negsuc 1499)
-below_zero = refl
-
-signed_zero : signed_of (codes "-0") ≡ None
-signed_zero = refl
+signed_zero : (frequency : ℤ) → ¬ IsFrequencyWord (45 ∷ decimal 0) frequency
+signed_zero frequency is =
+    let (n, (spelled, low, high), same) = minus_number _ (decimal 0) frequency refl is in
+    omega (arith, low, decimal_injective 0 n (lit< tt) (omega (arith, high)) spelled)
 
 -- first words are in lower case
 ignored : kind_of (codes "tinker") ≡ Some kind.Ignored
@@ -73,21 +68,25 @@ limit_line = (kind.Limit, refl, (kod_5, kod_5-spelled, refl))
 limit_rate : rate_of (rate_with kod_5) ≡ record { average = 60; burst = 20; spacing = 5 * 2 ^ 32 }
 limit_rate = refl
 
-not_high : (more : List (List ℕ)) (l : Line) → ¬ IsOnly SpellsLocal (codes "16" ∷ more) l
-not_high [] l (n, some, is) = cc
+-- 16 is above the bounds
+stratum_high : (n : ℕ) → decimal 16 ≡ decimal n → n ≤ 15 → ⊥
+stratum_high n spelled high = omega (arith, decimal_injective 16 n (lit< tt) (omega arith) spelled)
+
+not_high : (more : List (List ℕ)) (l : Line) → ¬ IsOnly SpellsLocal (decimal 16 ∷ more) l
+not_high [] l (n, (spelled, low, high), is) = stratum_high n spelled high
 not_high (next ∷ more) l none = none
 
-high_stops : (more : List (List ℕ)) (l : Line) → ¬ IsConfLine (codes "local" ∷ codes "16" ∷ more) l
+high_stops : (more : List (List ℕ)) (l : Line) → ¬ IsConfLine (codes "local" ∷ decimal 16 ∷ more) l
 high_stops more l (of, known, tail) =
     let same : kind.Local ≡ of = cc in
-    let P : Kind → Type 0 = λ k. IsTail k (codes "16" ∷ more) l in
+    let P : Kind → Type 0 = λ k. IsTail k (decimal 16 ∷ more) l in
     not_high more l (subst P (sym same) tail)
 
 -- a stratum that is too high is refused at the second word
-high_stratum : IsRefusedAt IsConfLine (codes "local" ∷ codes "16" ∷ []) 1
+high_stratum : IsRefusedAt IsConfLine (codes "local" ∷ decimal 16 ∷ []) 1
 high_stratum = record {
   within = lit≤ tt;
-  goes_on = (codes "1" ∷ [], line.Local 1, (kind.Local, refl, (1, refl, refl)));
+  goes_on = (decimal 1 ∷ [], line.Local 1, (kind.Local, refl, (1, (refl, lit≤ tt, lit≤ tt), refl)));
   stops = λ (more, l, is). high_stops more l is;
 }
 
@@ -118,3 +117,6 @@ MAX_SPACING-is = refl
 
 PLAIN_POLL-is : PLAIN_POLL ≡ 6
 PLAIN_POLL-is = refl
+
+MAX_LOCAL_STRATUM-is : MAX_LOCAL_STRATUM ≡ 15
+MAX_LOCAL_STRATUM-is = refl

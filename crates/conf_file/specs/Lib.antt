@@ -2,7 +2,6 @@ pub mod ConfLines
 pub mod ConfTexts
 pub mod Drafts
 pub mod Kinds
-pub mod Numbers
 pub mod OptionLines
 pub mod OptionRules
 pub mod Options

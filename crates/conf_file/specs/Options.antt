@@ -1,5 +1,5 @@
 -- Options of a line, in any order and each at most once: our own rule.
-use Rattle.std.specs.Prelude.{◌≡◌, ◌≢◌, ℕ, ◌≤◌, true, List, [], ◌∷◌, length, map, find, bytes_eq, Option, Some, Result, Ok, IfOk, IfErr, ◌+◌}
+use Rattle.std.specs.Prelude.{◌≡◌, ◌≢◌, ℕ, ◌≤◌, List, [], ◌∷◌, length, find, bytes_eq, Option, Some, Result, Ok, IfOk, IfErr, ◌+◌}
 use Rattle.std.specs.Option.{option_map}
 use Rattle.text_words.specs.Numbers.{SpellsNumber}
 use Rattle.refusals.specs.Refusals.{IsRefusedAt}

@@ -1,13 +1,15 @@
 -- Lines of one word after their first: our own rule.
-use Rattle.std.specs.Prelude.{◌≡◌, ℕ, ◌==◌, if◌then◌else◌, Bool, true, List, [], ◌∷◌, drop, slice_index, Option, Some, ℤ, pos, neg_ℤ}
+use Rattle.std.specs.Prelude.{◌≡◌, ℕ, ℤ, Bool, true, List, [], ◌∷◌}
+use Rattle.std.specs.Fmt.{signed_decimal}
 use Rattle.std.specs.List.{list_all}
 use Rattle.std.specs.Int.{is_in_range}
-use Rattle.std.specs.Option.{option_map}
+use Rattle.discipline.specs.Frequency.{IsFrequency}
 use Rattle.net_addr.specs.Spelling.{IsAddr, Spells}
 use Rattle.net_addr.specs.declared.addr.Addr.{Addr}
-use Rattle.conf_file.specs.Numbers.{number_of}
+use Rattle.text_words.specs.Numbers.{SpellsNumber}
 use Rattle.conf_file.specs.declared.lines.Line.{Line}
 use Rattle.conf_file.specs.declared.lines.Line.TheVariants.{Listen, Keys, Local, Frequency}
+use Rattle.conf_file.specs.declared.short_lines.TheConstants.{MAX_LOCAL_STRATUM}
 
 -- one word stands there, and the line means what it spells
 abbrev pub IsOnly : (List ℕ → Line → Type 0) → List (List ℕ) → Line → Type 0
@@ -29,15 +31,13 @@ SpellsKeys word line = (list_all is_name_octet word ≡ true) × (line ≡ Keys 
 
 -- the word of a `local` line is a stratum
 abbrev pub SpellsLocal : List ℕ → Line → Type 0
-SpellsLocal word line = (stratum : ℕ) × (number_of 1 15 word ≡ Some stratum) × (line ≡ Local stratum)
+SpellsLocal word line = (stratum : ℕ) × SpellsNumber 1 MAX_LOCAL_STRATUM word stratum × (line ≡ Local stratum)
 
--- the number that a word spells that may have a minus, from -2147483 to 2147483; 0 has none
-abbrev pub signed_of : List ℕ → Option ℤ
-signed_of word =
-    if slice_index word 0 == 45
-    then option_map (λ n. neg_ℤ (pos n)) (number_of 1 2147483 (drop 1 word))
-    else option_map pos (number_of 0 2147483 word)
+-- the word is a frequency in decimal, which may have a minus, without leading zeros, since `signed_decimal` writes each number
+-- in one way
+abbrev pub IsFrequencyWord : List ℕ → ℤ → Type 0
+IsFrequencyWord word frequency = (word ≡ signed_decimal frequency) × IsFrequency frequency
 
--- the word of a `frequency` line is a frequency
+-- the word of a `frequency` line is one
 abbrev pub SpellsFrequency : List ℕ → Line → Type 0
-SpellsFrequency word line = (frequency : ℤ) × (signed_of word ≡ Some frequency) × (line ≡ Frequency frequency)
+SpellsFrequency word line = (frequency : ℤ) × IsFrequencyWord word frequency × (line ≡ Frequency frequency)

@@ -1,3 +1,6 @@
+ghost use Rattle.std.specs.Option.{ForSome};
+ghost use Rattle.discipline.specs.Frequency.{IsFrequency};
+
 use crate::lists::{Addrs, ServerLines};
 use access_rules::{Rate, Rules};
 use edge_traits::Name;
@@ -17,6 +20,7 @@ pub struct Conf {
     pub keys: Option<Name>,
     /// The stratum at which it serves its own clock, 1 to 15.
     pub local: Option<u8>,
-    /// The frequency with which its clock begins, in 2^-32 of the rate.
+    /// The frequency with which its clock begins, in 2^-32 of the rate: at most 500 ppm either way.
     pub freq: Option<i32>,
+    pub ghost bounded: { ForSome freq IsFrequency },
 }

@@ -7,6 +7,7 @@ ghost use Rattle.conf_file.specs.declared.confs.ConfFault.TheVariants.{At, NoMem
 
 use crate::conf::Conf;
 use crate::drafts::{Draft, rate_with};
+use crate::frequencies::number_of;
 use crate::line_reader::take_line;
 use crate::lists::Addrs;
 use crate::option_lines::NTP_PORT;
@@ -90,7 +91,7 @@ fn finished(alloc: Global, draft: Draft) -> Result<Conf, AllocError>
         limits,
         keys: draft.keys,
         local: draft.local,
-        freq: draft.freq,
+        freq: number_of(draft.freq),
     })
 }
 

@@ -3,6 +3,7 @@ ghost use Rattle.std.specs.Option.{option_map, unwrap_or};
 ghost use Rattle.conf_file.specs.Drafts.{DoFit, IsLimitsOf, IsOpening, IsTakenInto, IsUntaken, is_closed, kind_of_line, rate_of, restricted, rules_after, untaken_of};
 ghost use Rattle.access_rules.specs.declared.rules.RuleFault.TheVariants.{Full};
 
+use crate::frequencies::Frequency;
 use crate::kinds::Kind;
 use crate::lines::Line;
 use crate::list_options::ListOptions;
@@ -25,7 +26,7 @@ pub struct Draft {
     pub limits: Option<Limits>,
     pub keys: Option<Name>,
     pub local: Option<u8>,
-    pub freq: Option<i32>,
+    pub freq: Option<Frequency>,
 }
 
 /// Why a line that is read is not taken: one rule too many, limits that don't fit each other, or for

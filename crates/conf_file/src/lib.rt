@@ -1,7 +1,7 @@
 //! The configuration file of the server: its text to a value.
 //!
-//! Layer 4. Stands on: `recency`, `access_rules`, `mac_keys`, `edge_traits`, `net_addr`, `refusals`,
-//! `text_words`.
+//! Layer 4. Stands on: `recency`, `access_rules`, `discipline`, `mac_keys`, `edge_traits`, `net_addr`,
+//! `refusals`, `text_words`.
 //! Promises: a text is the configuration that it means, or is refused at exactly its first refused
 //! word.
 #![tactic(auto)]
@@ -10,13 +10,13 @@ pub mod conf;
 pub mod confs;
 mod drafts;
 mod families;
+mod frequencies;
 mod kinds;
 mod line_reader;
 mod lines;
 mod list_options;
 mod listen_lines;
 pub mod lists;
-mod numbers;
 mod option_lines;
 mod options;
 mod rate_options;

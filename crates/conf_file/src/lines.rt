@@ -1,3 +1,4 @@
+use crate::frequencies::Frequency;
 use crate::list_options::ListOptions;
 use crate::rate_options::RateOptions;
 use crate::restrict_options::Restriction;
@@ -22,6 +23,6 @@ pub enum Line {
     Keys(Name),
     /// The stratum of a server that serves its own clock.
     Local(u8),
-    /// The frequency of the clock, in 2^-32 of the rate.
-    Frequency(i32),
+    /// The frequency of the clock.
+    Frequency(Frequency),
 }

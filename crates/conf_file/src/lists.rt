@@ -1,5 +1,6 @@
-ghost use Rattle.std.specs.Prelude.{◌≡◌, ◌≤◌, ◌<◌, ◌∷◌, ◌++◌, [], Some, length, slice_get, OnOk, OnErr};
+ghost use Rattle.std.specs.Prelude.{◌≡◌, ◌≤◌, ◌<◌, ◌∷◌, ◌++◌, [], Some, length, slice_get, OnOk, OnErr, map};
 ghost use Rattle.access_rules.specs.declared.servers.TheConstants.{MAX_SERVERS};
+ghost use Rattle.conf_file.specs.Servers.{words_of_server};
 ghost use Rattle.conf_file.specs.declared.lists.TheConstants.{MAX_LISTEN};
 
 use crate::servers::Server;
@@ -67,25 +68,25 @@ impl Addrs {
 /// At most 32 upstream servers, in the order of their lines.
 #[derive(Drop)]
 pub struct ServerLines {
-    servers: Vec<Server>,
+    servers: Vec<ServerLine>,
 }
 
 impl Model for ServerLines {
-    ghost use Rattle.std.specs.Prelude.{◌≤◌, List, length};
-    ghost use Rattle.conf_file.specs.Servers.{ServerWords};
+    ghost use Rattle.std.specs.Prelude.{◌≤◌, List, length, map};
+    ghost use Rattle.conf_file.specs.Servers.{ServerWords, words_of_server};
 
     ghost Value = { List ServerWords };
 
-    ghost view = { λ s. s.servers.items };
+    ghost view = { λ s. map words_of_server s.servers.items };
 
     ghost invariant = { λ s. length s.servers.items ≤ 32 };
 }
 
 impl ServerLines {
     /// These servers.
-    pub fn of(servers: Vec<Server>) -> ServerLines
+    pub fn of(servers: Vec<ServerLine>) -> ServerLines
         requires { length servers.items ≤ MAX_SERVERS }
-        ensures { result ≡ servers.items }
+        ensures { result ≡ map words_of_server servers.items }
     {
         ServerLines { servers }
     }
@@ -98,13 +99,20 @@ impl ServerLines {
         self.servers.len()
     }
 
+    /// All of them, in the order of their lines.
+    pub fn as_slice(&self) -> &[ServerLine]
+        ensures lines { map words_of_server result.now ≡ self.now }
+        ensures at_most { length result.now ≤ MAX_SERVERS }
+    {
+        self.servers.as_slice()
+    }
+
     /// The server at a place, counted from 0.
     pub fn get(&self, place: usize) -> &ServerLine
         requires { place < length self.now }
-        ensures { slice_get self.now place
-            ≡ Some (record { addr = result.now.addr; key = result.now.key; poll = result.now.poll }) }
+        ensures { slice_get self.now place ≡ Some (words_of_server result.now) }
     {
-        self.servers[place].line()
+        &self.servers[place]
     }
 
     /// Appends a server.
@@ -113,7 +121,7 @@ impl ServerLines {
         ensures pushed { OnOk result (self.new ≡ self.old ++ server ∷ []) }
         ensures kept { OnErr result (self.new ≡ self.old) }
     {
-        self.servers.push(server)?;
+        self.servers.push(server.into_line())?;
         Ok(())
     }
 }

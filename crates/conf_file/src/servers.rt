@@ -1,5 +1,5 @@
 ghost use Rattle.std.specs.Prelude.{◌≡◌};
-ghost use Rattle.conf_file.specs.Servers.{ServerWords};
+ghost use Rattle.conf_file.specs.Servers.{words_of_server};
 
 use access_rules::ServerLine;
 use std::marker::Model;
@@ -11,27 +11,25 @@ pub struct Server {
 }
 
 impl Model for Server {
-    ghost use Rattle.conf_file.specs.Servers.{ServerWords};
+    ghost use Rattle.conf_file.specs.Servers.{ServerWords, words_of_server};
 
     ghost Value = { ServerWords };
 
-    ghost view = { λ s. record { addr = s.line.addr; key = s.line.key; poll = s.line.poll } };
+    ghost view = { λ s. words_of_server s.line };
 }
 
 impl Server {
     /// The server of a line.
     pub fn of_line(line: ServerLine) -> Server
-        ensures { result ≡ record { addr = line.addr; key = line.key; poll = line.poll } }
+        ensures { result ≡ words_of_server line }
     {
         Server { line }
     }
 
-    /// The line's values.
-    pub fn line(&self) -> &ServerLine
-        ensures addr { result.now.addr ≡ self.now.addr }
-        ensures key { result.now.key ≡ self.now.key }
-        ensures poll { result.now.poll ≡ self.now.poll }
+    /// The line itself.
+    pub fn into_line(self) -> ServerLine
+        ensures { words_of_server result ≡ self }
     {
-        &self.line
+        self.line
     }
 }

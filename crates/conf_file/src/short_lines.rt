@@ -1,13 +1,18 @@
-ghost use Rattle.std.specs.Prelude.{◌≡◌, IfOk, IfErr, IsOkAnd};
+ghost use Rattle.std.specs.Prelude.{◌≡◌, ◌∷◌, ℕ, ℤ, List, Some, IfSome, IfNone, IfOk, IfErr, IsOkAnd};
 ghost use Rattle.std.specs.List.{list_all};
 ghost use Rattle.conf_file.specs.Options.{IsReadAs, IsRefusedFrom};
-ghost use Rattle.conf_file.specs.ShortLines.{IsOnly, SpellsFrequency, SpellsKeys, SpellsLocal, is_name_octet, signed_of};
+ghost use Rattle.conf_file.specs.ShortLines.{IsFrequencyWord, IsOnly, SpellsFrequency, SpellsKeys, SpellsLocal, is_name_octet};
 ghost use Rattle.conf_file.specs.declared.lines.Line.{Line};
 ghost use Rattle.conf_file.specs.declared.lines.Line.TheVariants.{Keys};
 
+use crate::frequencies::Frequency;
 use crate::lines::Line;
-use crate::numbers::number_in;
-use text_words::Words;
+use discipline::MAX_FREQUENCY;
+use text_words::{Words, read_decimal_within};
+
+/// The greatest stratum at which a server may serve its own clock (RFC 5905, section 7.3: 16 is
+/// unsynchronized).
+pub const MAX_LOCAL_STRATUM: u32 = 15;
 
 /// What the words after `local` mean: a stratum of 1 to 15.
 pub fn local_line(words: &mut Words<'_>) -> Result<Line, u32>
@@ -16,7 +21,7 @@ pub fn local_line(words: &mut Words<'_>) -> Result<Line, u32>
     let Some(word) = words.next() else {
         return Err(2);
     };
-    let Some(stratum) = number_in(word, 1, 15) else {
+    let Some(stratum) = read_decimal_within(word, 1, MAX_LOCAL_STRATUM) else {
         return Err(2);
     };
     match words.next() {
@@ -25,32 +30,50 @@ pub fn local_line(words: &mut Words<'_>) -> Result<Line, u32>
     }
 }
 
-/// What the words after `frequency` mean: a number from -2147483 to 2147483.
+/// What the words after `frequency` mean: a frequency of at most 500 ppm either way.
 pub fn frequency_line(words: &mut Words<'_>) -> Result<Line, u32>
     ensures { IsReadAs 2 (IsOnly SpellsFrequency) words.old result }
 {
     let Some(word) = words.next() else {
         return Err(2);
     };
-    let Some(frequency) = signed_in(word) else {
+    let Some(frequency) = frequency_in(word) else {
         return Err(2);
     };
     match words.next() {
         Some(_) => Err(3),
-        None => Ok(Line::Frequency(frequency)),
+        None => Ok(Line::Frequency(Frequency::of(frequency))),
     }
 }
 
-/// The number that a word spells that may have a minus.
-fn signed_in(word: &[u8]) -> Option<i32>
-    ensures { result ≡ signed_of word.now }
+/// The frequency that a word spells, which may have a minus.
+fn frequency_in(word: &[u8]) -> Option<i32>
+    ensures found { IfSome result (IsFrequencyWord word.now) }
+    ensures only { (frequency : ℤ) → IsFrequencyWord word.now frequency
+        → result ≡ Some frequency }
+{
+    let most = MAX_FREQUENCY as u32;
+    match digits_after_minus(word) {
+        Some(digits) => {
+            let number = read_decimal_within(digits, 1, most)?;
+            Some(-(number as i32))
+        }
+        None => {
+            let number = read_decimal_within(word, 0, most)?;
+            Some(number as i32)
+        }
+    }
+}
+
+/// The octets of a word after its minus, if it begins with one.
+fn digits_after_minus<'a>(word: &'a [u8]) -> Option<&'a [u8]>
+    ensures minus { IfSome result (λ digits. word.now ≡ 45 ∷ digits.now) }
+    ensures plain { IfNone result ((digits : List ℕ) → ¬ (word.now ≡ 45 ∷ digits)) }
 {
     if word.is_empty() || word[0] != b'-' {
-        let number = number_in(word, 0, 2_147_483)?;
-        return Some(number as i32);
+        return None;
     }
-    let number = number_in(&word[1..], 1, 2_147_483)?;
-    Some(-(number as i32))
+    Some(&word[1..])
 }
 
 /// The name that the words after `keys` are.

@@ -1,11 +1,9 @@
-use Rattle.std.proofs.Common.{◌≡◌, ◌≤◌, ◌<◌, ◌^◌, ◌+◌, ◌-◌, ◌++◌, ◌∷◌, [], ℕ, min, subst, Some, None, List, false, length, length-append, sym, ap, ◌∙◌, IsSome, refl, arith}
-use Rattle.std.proofs.lemmas.Bool.Decides.{nat_tests}
-use Rattle.conf_file.specs.OptionRules.{Given}
-use Rattle.conf_file.specs.Options.{AreOnce, IsNew, IsSound, rule_of}
+use Rattle.std.proofs.Common.{◌≡◌, ◌≤◌, ◌<◌, ◌^◌, ◌+◌, ◌-◌, ◌++◌, ◌∷◌, [], ℕ, min, subst, sym, ap, ◌∙◌, arith}
+use Rattle.conf_file.specs.Options.{IsNew, IsSound}
 use Rattle.text_words.specs.Numbers.{SpellsNumber}
 use Rattle.conf_file.specs.declared.options.Value.{Value}
 use Rattle.conf_file.specs.declared.options.Value.TheVariants.{Alone, Number}
-use Rattle.conf_file.proofs.OptionLemmas.{AreKnown, IsRest, IsRestBehind, behind_ends, given_fit, has_new, known_next, no_number, no_number_left, no_rule, no_second, once_more, rest_ends, room_for, rule_named}
+use Rattle.conf_file.proofs.OptionLemmas.{IsRest, IsRestBehind, behind_ends, has_new, known_next, no_number, no_number_left, no_rule, no_second, once_more, rest_ends, room_for, rule_named}
 use Rattle.conf_file.proofs.OptionStepLemmas.{alone_step, number_step, read_behind, read_ended, read_few, read_first, rule_sound}
 use Rattle.conf_file.proofs.ReadingLemmas.{read_bad, read_end}
 use Rattle.conf_file.proofs.options.read_options.Goals as goal

@@ -1,4 +1,4 @@
-use Rattle.std.proofs.Common.{ℕ, ◌<◌, ◌^◌, length}
+use Rattle.std.proofs.Common.{◌<◌, ◌^◌, length}
 use Rattle.conf_file.specs.Options.{AreOnce}
 use Rattle.conf_file.proofs.OptionLemmas.{AreKnown}
 use Rattle.conf_file.proofs.OptionStepLemmas.{IsReadTo}

@@ -1,7 +1,5 @@
-use Rattle.std.proofs.Common.{◌≡◌, drop, bytes_eq}
-use Rattle.std.specs.List.{list_any}
-use Rattle.conf_file.specs.OptionRules.{Given}
-use Rattle.conf_file.specs.Options.{number_of, rule_of}
+use Rattle.std.proofs.Common.{◌≡◌, drop}
+use Rattle.conf_file.specs.Options.{rule_of}
 use Rattle.conf_file.proofs.options.rule_in.Given as goal
 
 -- the rest decides

@@ -1,7 +1,6 @@
 use Rattle.std.proofs.Common.{◌≡◌, drop, bytes_eq}
 use Rattle.std.specs.List.{list_any}
 use Rattle.conf_file.specs.OptionRules.{Given}
-use Rattle.conf_file.specs.Options.{number_of, rule_of}
 use Rattle.conf_file.proofs.options.Options.has.Given as goal
 
 -- the rest decides
