@@ -27,6 +27,7 @@ pub mod source;
 pub mod standard_output;
 pub mod status;
 pub mod text;
+pub mod udp_any;
 pub mod udp_port;
 pub mod uptime;
 
@@ -50,5 +51,6 @@ pub use source::{Failed, ReadFault, Source, read_whole};
 pub use standard_output::StandardOutput;
 pub use status::Status;
 pub use text::{Name, Text};
+pub use udp_any::UdpAny;
 pub use udp_port::UdpPort;
 pub use uptime::Uptime;

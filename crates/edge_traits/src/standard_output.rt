@@ -36,16 +36,3 @@ impl<S: Print> Sink for StandardOutput<S> {
         }
     }
 }
-
-#[cfg(test)]
-mod tests {
-    use super::*;
-    use std::test::Fail;
-
-    #[test]
-    fn nothing_is_written_of_no_octets(rt: HostRuntime) -> Result<(), Fail> {
-        let mut output = StandardOutput::new(rt);
-        assert_eq!(rt; output.write(b"")?, 0);
-        Ok(())
-    }
-}
