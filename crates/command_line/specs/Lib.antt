@@ -1,0 +1,2 @@
+pub mod Notices
+pub use Rattle.edge_traits.specs.Told
