@@ -1,11 +1,15 @@
 -- Worked octets: a request for the variable `stratum`, its answer, errors and names (RFC 9327, sections 2, 3.4 and 4).
-use Rattle.std.proofs.Common.{◌≡◌, ℕ, true, false, List, [], ◌∷◌, ◌++◌, take, drop, Some, None, refl, lit<, lit≤, ◌≤◌}
+use Rattle.std.proofs.Common.{◌≡◌, ℕ, true, false, List, [], ◌∷◌, ◌++◌, take, drop, Some, None, refl, lit<, lit≤, ◌≤◌, codes}
 use Rattle.mode6_frame.specs.declared.message.TheConstants.{HEAD_LEN, MAX_BODY}
 use Rattle.mode6_frame.specs.declared.message.FrameFault.TheVariants.{Short, BadVersion, BadMode, BadCount}
 use Rattle.mode6_frame.specs.declared.message.Head.{Head}
 use Rattle.mode6_frame.specs.Frames.{FrameParts, spelled_frame, head_of, error_parts, frame_fault_of}
 use Rattle.mode6_frame.specs.Status.{system_status_word, peer_status_word, error_status_word}
+use Rattle.refusals.specs.Refusals.{IsRefusedAt}
+use Rattle.refusals.specs.Machines.{refused_where_stuck}
 use Rattle.mode6_frame.specs.Items.{IsItemText, Blank, Named}
+use Rattle.mode6_frame.specs.ItemReader.{item_reader, Within}
+use Rattle.mode6_frame.proofs.ItemLemmas.{reads_items}
 
 -- operation 2 of version 2, for `stratum`
 abbrev request : FrameParts
@@ -111,6 +115,38 @@ names = record {
   spelled = refl;
   named = refl;
 }
+
+-- a bare value keeps the space within it, and one in quotes a comma too
+values : IsItemText (codes "a = b c , d=\"x, y\"") (record { name = codes "a"; value = Some (codes "b c") } ∷ record { name = codes "d"; value = Some (codes "x, y") } ∷ [])
+values = reads_items.sound _ _ _ refl refl
+
+-- a value may be empty, with quotes and without
+empty-values : IsItemText (codes "a=, b=\"\"\r\n") (record { name = codes "a"; value = Some [] } ∷ record { name = codes "b"; value = Some [] } ∷ [])
+empty-values = reads_items.sound _ _ _ refl refl
+
+-- white space between two octets of a bare value is its own, but for line ends
+spaced-value : IsItemText (codes "filtdelay= 0.1  0.2\t0.3 \r\n") (record { name = codes "filtdelay"; value = Some (codes "0.1  0.2\t0.3") } ∷ [])
+spaced-value = reads_items.sound _ _ _ refl refl
+
+-- an equals sign may stand in a value
+equals-value : IsItemText (codes "a==b") (record { name = codes "a"; value = Some (codes "=b") } ∷ [])
+equals-value = reads_items.sound _ _ _ refl refl
+
+-- a text is refused where it ends within quotes
+unclosed-refused : IsRefusedAt IsItemText (codes "a=\"b") 4
+unclosed-refused = refused_where_stuck item_reader (Within [] (Blank [])) IsItemText reads_items _ 4 _ (lit≤ tt) refl refl
+
+-- behind a value in quotes
+quoted-refused : IsRefusedAt IsItemText (codes "a=\"b\" c") 6
+quoted-refused = refused_where_stuck item_reader (Within [] (Blank [])) IsItemText reads_items _ 6 _ (lit≤ tt) refl refl
+
+-- behind a line end past a bare one
+line-refused : IsRefusedAt IsItemText (codes "a=b\r\nc") 5
+line-refused = refused_where_stuck item_reader (Within [] (Blank [])) IsItemText reads_items _ 5 _ (lit≤ tt) refl refl
+
+-- and at a quotation mark within one
+mark-refused : IsRefusedAt IsItemText (codes "a=b\"") 3
+mark-refused = refused_where_stuck item_reader (Within [] (Blank [])) IsItemText reads_items _ 3 _ (lit≤ tt) refl refl
 
 HEAD_LEN-is : HEAD_LEN ≡ 12
 HEAD_LEN-is = refl

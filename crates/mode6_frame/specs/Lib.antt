@@ -3,6 +3,11 @@ pub mod Places
 pub mod Status
 pub mod Items
 pub mod ItemReader
+pub mod ItemTexts
+pub mod Cuts
+pub mod Drafts
+pub mod Groups
+pub mod Served
 pub use Rattle.refusals.specs.Refusals
 pub use Rattle.refusals.specs.Told
 pub use Rattle.ntp_packet.specs.FirstOctet

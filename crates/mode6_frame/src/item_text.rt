@@ -1,26 +1,28 @@
-ghost use Rattle.std.specs.Prelude.{◌≡◌, ◌+◌, ◌≤◌, ℕ, List, Ok, Err, None, length, drop, IfOk, IfErr};
+ghost use Rattle.std.specs.Prelude.{◌≡◌, ◌+◌, ◌*◌, ◌≤◌, ℕ, List, Ok, Err, Some, None, length, drop, IfOk, IfErr};
 ghost use Rattle.std.specs.List.{prefix_len};
 ghost use Rattle.refusals.specs.Refusals.{IsRefusedAt};
 ghost use Rattle.refusals.specs.Told.{IsUnless, told_number};
 ghost use Rattle.mode6_frame.specs.declared.items.Item.{Item};
 ghost use Rattle.mode6_frame.specs.declared.items.ItemFault.TheVariants.{At, NoMemory};
-ghost use Rattle.mode6_frame.specs.ItemReader.{IsSlotRead};
-ghost use Rattle.mode6_frame.specs.Items.{IsItemText, IsDue, is_white, is_name_octet};
+ghost use Rattle.mode6_frame.specs.ItemReader.{IsSlotRead, IsUnclosedSlot, IsValueRead, IsUnclosedValue, IsToldAt, IsTrimmedAt, is_octet_at};
+ghost use Rattle.mode6_frame.specs.Items.{IsItemText, IsDue, is_white, is_name_octet, is_quoted_octet, is_bare_octet};
 
 use crate::items::{Item, ItemFault, Items};
 use edge_traits::Text;
 use std::alloc::Global;
 
-/// The items of a text: names that commas separate, with white space around them skipped
-/// (RFC 9327, section 4).
+/// The items of a text: names that commas separate, each alone or with a value behind an equals
+/// sign, with white space around all of these skipped (RFC 9327, section 4).
 ///
 /// White space is space, tab, carriage return and line feed; where nothing else stands between two
 /// commas there is no item. A name has octets from 33 to 126 without comma, equals sign and
-/// quotation mark.
+/// quotation mark. A value stands in quotes and has octets from 32 to 126 without quotation mark;
+/// or it is bare and has these octets and tab, without comma, and no white space at its ends.
 pub fn read_items(alloc: Global, text: &[u8]) -> Result<Items, ItemFault>
     ensures found { IfOk result (λ items. IsItemText text.now items) }
     ensures only { (items : List Item) → IsItemText text.now items
         → IsUnless NoMemory result (Ok items) }
+    ensures room { IfOk result (λ items. 2 * length items ≤ length text.now + 1) }
 
     // The refusals: want of memory comes freely, and the place exactly.
     ensures refused { IfErr result (IsDue text.now) }
@@ -41,6 +43,14 @@ pub fn read_items(alloc: Global, text: &[u8]) -> Result<Items, ItemFault>
     }
 }
 
+/// Where a value stands behind an equals sign, and where its slot ends.
+#[derive(Clone, Copy)]
+struct ValuePlace {
+    begin: usize,
+    end: usize,
+    past: usize,
+}
+
 /// Adds the item of the slot that begins at a place, if it has one, and answers where the slot ends.
 fn read_slot(
     alloc: Global,
@@ -51,25 +61,69 @@ fn read_slot(
     requires { at ≤ length text.now }
     ensures read { IfOk result
         (λ end. IsSlotRead text.now at end items.old.items items.new.items) }
-    ensures no_memory { IfErr result (λ fault. fault ≡ NoMemory) }
+    ensures unclosed { IfErr result (IsToldAt (IsUnclosedSlot text.now at)) }
 {
-    let name = past_white(text, at);
-    let name_end = past_name(text, name);
-    if name == name_end {
-        return Ok(name);
+    let begin = past_white(text, at);
+    let end = past_name(text, begin);
+    if begin == end {
+        return Ok(begin);
     }
-    items.push(named(alloc, &text[name..name_end])?)?;
-    Ok(past_white(text, name_end))
+    let past = past_white(text, end);
+    if !is_at(text, past, b'=') {
+        items.push(named(alloc, &text[begin..end])?)?;
+        return Ok(past);
+    }
+    let place = value_at(text, past + 1)?;
+    let value = &text[place.begin..place.end];
+    items.push(valued(alloc, &text[begin..end], value)?)?;
+    Ok(place.past)
+}
+
+/// Where the value stands behind the equals sign before a place.
+fn value_at(text: &[u8], at: usize) -> Result<ValuePlace, ItemFault>
+    requires { at ≤ length text.now }
+    ensures read { IfOk result
+        (λ place. IsValueRead text.now at place.begin place.end place.past) }
+    ensures unclosed { IfErr result (IsToldAt (IsUnclosedValue text.now at)) }
+{
+    let begin = past_white(text, at);
+    if is_at(text, begin, b'"') {
+        let close = past_quoted(text, begin + 1);
+        if !is_at(text, close, b'"') {
+            return Err(refused_at(close));
+        }
+        return Ok(ValuePlace {
+            begin: begin + 1,
+            end: close,
+            past: past_white(text, close + 1),
+        });
+    }
+    let run = past_bare(text, begin);
+    Ok(ValuePlace {
+        begin,
+        end: trimmed(text, begin, run),
+        past: past_white(text, run),
+    })
 }
 
 fn named(alloc: Global, name: &[u8]) -> Result<Item, ItemFault>
     ensures named { IfOk result (λ item. item ≡ record { name = name.now; value = None }) }
     ensures no_memory { IfErr result (λ fault. fault ≡ NoMemory) }
 {
-    let octets = Vec::from_slice(alloc, name)?;
     Ok(Item {
-        name: Text::of(octets),
+        name: Text::of(Vec::from_slice(alloc, name)?),
         value: None,
+    })
+}
+
+fn valued(alloc: Global, name: &[u8], value: &[u8]) -> Result<Item, ItemFault>
+    ensures valued { IfOk result
+        (λ item. item ≡ record { name = name.now; value = Some value.now }) }
+    ensures no_memory { IfErr result (λ fault. fault ≡ NoMemory) }
+{
+    Ok(Item {
+        name: Text::of(Vec::from_slice(alloc, name)?),
+        value: Some(Text::of(Vec::from_slice(alloc, value)?)),
     })
 }
 
@@ -107,6 +161,51 @@ fn past_name(text: &[u8], at: usize) -> usize
     end
 }
 
+/// Where the octets of a value in quotes end that begin at a place.
+fn past_quoted(text: &[u8], at: usize) -> usize
+    requires { at ≤ length text.now }
+    ensures past { result ≡ at + prefix_len is_quoted_octet (drop at text.now) }
+    ensures within { result ≤ length text.now }
+{
+    let mut end = at;
+    while end < text.len() && is_octet_of_quoted(text[end]) {
+        end += 1;
+    }
+    end
+}
+
+/// Where the octets of a bare value end that begin at a place, with spaces and tabs behind it.
+fn past_bare(text: &[u8], at: usize) -> usize
+    requires { at ≤ length text.now }
+    ensures past { result ≡ at + prefix_len is_bare_octet (drop at text.now) }
+    ensures within { result ≤ length text.now }
+{
+    let mut end = at;
+    while end < text.len() && is_octet_of_bare(text[end]) {
+        end += 1;
+    }
+    end
+}
+
+/// Where the white space begins that ends the octets from a place up to another.
+fn trimmed(text: &[u8], begin: usize, end: usize) -> usize
+    requires begun { begin ≤ end }
+    requires within { end ≤ length text.now }
+    ensures trimmed { IsTrimmedAt text.now begin result end }
+{
+    let mut cut = end;
+    while cut > begin && is_white_octet(text[cut - 1]) {
+        cut -= 1;
+    }
+    cut
+}
+
+fn is_at(text: &[u8], at: usize, octet: u8) -> bool
+    ensures { result ≡ is_octet_at octet (drop at text.now) }
+{
+    at < text.len() && text[at] == octet
+}
+
 fn is_white_octet(octet: u8) -> bool
     ensures { result ≡ is_white octet }
 {
@@ -119,65 +218,14 @@ fn is_octet_of_name(octet: u8) -> bool
     (33..=126).contains(&octet) && !matches!(octet, b',' | b'=' | b'"')
 }
 
-#[cfg(test)]
-mod tests {
-    use super::*;
-    use std::alloc::AllocError;
-    use std::test::Fail;
+fn is_octet_of_quoted(octet: u8) -> bool
+    ensures { result ≡ is_quoted_octet octet }
+{
+    (32..=126).contains(&octet) && octet != b'"'
+}
 
-    /// The names, with a bar before each.
-    fn barred(alloc: Global, items: &Items) -> Result<Vec<u8>, AllocError> {
-        let mut names = Vec::new(alloc);
-        for i in 0..items.len() {
-            names.push(b'|')?;
-            names.extend_from_slice(items.get(i).name.as_slice())?;
-        }
-        Ok(names)
-    }
-
-    #[test]
-    fn names_are_read_and_white_space_and_empty_slots_skipped(rt: HostRuntime) -> Result<(), Fail> {
-        let cases = [
-            (b"".as_slice(), b"".as_slice()),
-            (b" \t\r\n".as_slice(), b"".as_slice()),
-            (b",, ,".as_slice(), b"".as_slice()),
-            (b"stratum".as_slice(), b"|stratum".as_slice()),
-            (
-                b"srcadr,refid, hpoll".as_slice(),
-                b"|srcadr|refid|hpoll".as_slice(),
-            ),
-            (b" a\t,\r\n, b\r\n".as_slice(), b"|a|b".as_slice()),
-            (b"a,a,".as_slice(), b"|a|a".as_slice()),
-            (b"!#~+<>{}".as_slice(), b"|!#~+<>{}".as_slice()),
-        ];
-        for (text, names) in cases {
-            let items = read_items(rt.alloc(), text)?;
-            assert!(rt; barred(rt.alloc(), &items)?.as_slice() == names);
-            for i in 0..items.len() {
-                assert!(rt; items.get(i).value.is_none());
-                assert!(rt; items.get(i).name.len() > 0);
-            }
-        }
-        Ok(())
-    }
-
-    #[test]
-    fn the_first_octet_at_which_no_text_goes_on_is_told(rt: HostRuntime) {
-        let cases = [
-            (b"a b".as_slice(), 2),
-            (b"a  \tb,=".as_slice(), 4),
-            (b"stratum=16".as_slice(), 7),
-            (b"=16".as_slice(), 0),
-            (b"\"a\"".as_slice(), 0),
-            (b"a, b\"".as_slice(), 4),
-            (b"a,\x7f".as_slice(), 2),
-            (b"a,\x00".as_slice(), 2),
-            (b"a\x0b".as_slice(), 1),
-            (b",, \x80".as_slice(), 3),
-        ];
-        for (text, place) in cases {
-            let fault = read_items(rt.alloc(), text).err();
-            assert_eq!(rt; fault, Some(ItemFault::At { place }), "{text:?}");
-        }
-    }
+fn is_octet_of_bare(octet: u8) -> bool
+    ensures { result ≡ is_bare_octet octet }
+{
+    (is_octet_of_quoted(octet) || octet == b'\t') && octet != b','
 }

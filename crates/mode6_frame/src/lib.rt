@@ -1,24 +1,33 @@
 //! NTP control messages, or mode 6: octets to a frame, and back; the status words and their codes;
-//! the items in a body (RFC 9327, sections 2 to 4).
+//! the items in a body; answers cut into fragments, and put together (RFC 9327, sections 2 to 4).
 //!
 //! Layer 3. Stands on: `refusals`, `ntp_packet`, `edge_traits`.
 //! Promises: a frame is read exactly where the octets spell one; what is written is read back; so
 //! are the status words; a text of items is read exactly, and refused exactly at the first octet
-//! where none goes on.
+//! where none goes on; fragments make an answer exactly where they stand end to end, and then the
+//! one that the last of them belongs to.
 #![tactic(auto)]
 
+pub mod cut_laws;
+pub mod cutting;
 pub mod errors;
 pub mod events;
+pub mod groups;
 pub mod item_text;
+pub mod item_writing;
 pub mod items;
+pub mod joining;
+pub mod laws;
 pub mod message;
 pub mod operations;
 pub mod reading;
 pub mod selections;
 pub mod sources;
 pub mod status;
+pub mod tags;
 pub mod writing;
 
+pub use cutting::{MAX_ITEM, cut, whole_gram};
 pub use edge_traits::Text;
 pub use errors::{
     BAD_ASSOCIATION, BAD_AUTHENTICATION, BAD_FORMAT, BAD_NAME, BAD_OPERATION, BAD_VALUE, PROHIBITED,
@@ -31,7 +40,9 @@ pub use events::{
     NO_SYSTEM_PEER, PANIC_STOP, RATE_EXCEEDED, REACHABLE, RESTARTED, SPIKE_DETECTED,
     SPIKE_SUPPRESSED, SYSTEM_RESTARTED, UNREACHABLE,
 };
+pub use groups::{Groups, MAX_GROUPS, MAX_PIECES, Step, Unused};
 pub use item_text::read_items;
+pub use item_writing::put_item;
 pub use items::{Item, ItemFault, Items};
 pub use message::{Frame, FrameFault, HEAD_LEN, Head, MAX_BODY};
 pub use operations::{

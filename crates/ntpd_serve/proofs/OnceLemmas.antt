@@ -1,18 +1,20 @@
 -- How silences add up at a port.
-use Rattle.std.proofs.Common.{◌≡◌, ℕ, ◌+◌, Option, Some, None, List, [], ◌∷◌, ◌++◌, append_assoc, replicate, zero, suc, Bool, inl, inr, refl, sym, ap, subst, ◌∙◌, arith}
-use Rattle.std.proofs.lemmas.List.{append-nil, replicate_more}
+use Rattle.std.proofs.Common.{◌≡◌, ℕ, ◌+◌, ◌<◌, ◌≤◌, length, Option, Some, None, List, [], ◌∷◌, ◌++◌, append_assoc, replicate, zero, suc, Bool, inl, inr, refl, sym, ap, subst, ◌∙◌, arith}
+use Rattle.std.specs.Prelude.{slice_index_or, take}
+use Rattle.std.specs.List.{AllByRecursion}
+use Rattle.std.proofs.lemmas.List.{append-nil, replicate_more, map-append, take_more, take_all}
 use Rattle.mac_keys.specs.declared.keys.Key.{Key}
 use Rattle.net_addr.specs.declared.addr.Addr.{Addr}
 use Rattle.edge_traits.specs.Told.{gained, Grows, Rose}
 use Rattle.edge_traits.proofs.ToldLemmas.{gained-gained}
 use Rattle.edge_traits.specs.declared.port.Event.{Event}
-use Rattle.edge_traits.specs.declared.port.Event.TheVariants.{Silence, Took}
+use Rattle.edge_traits.specs.declared.port.Event.TheVariants.{Silence, Took, Sent}
 use Rattle.edge_traits.specs.declared.status.Status.{Status}
 use Rattle.server_core.specs.States.{ServerState}
 use Rattle.server_core.specs.declared.response.Response.{Response}
 use Rattle.server_core.specs.declared.response.Response.TheVariants.{Silent as NoAnswer}
 use Rattle.server_core.specs.declared.response.Silence.{Silence as Reason}
-use Rattle.server_core.specs.Responses.{IsResponse, grams_of}
+use Rattle.server_core.specs.Responses.{IsResponse}
 use Rattle.ntpd_serve.specs.Ending.{Reports}
 use Rattle.ntpd_serve.specs.declared.once.TheConstants.{PATIENCE}
 use Rattle.ntpd_serve.specs.declared.ending.Ending.{Ending}
@@ -20,7 +22,7 @@ use Rattle.ntpd_serve.specs.declared.ending.Ending.TheVariants.{Answered, Silent
 use Rattle.ntpd_serve.specs.declared.ending.Failure.{Failure}
 use Rattle.ntpd_serve.specs.declared.ending.Failure.TheVariants.{Words, Host, Port, Quiet, Closed, NoMemory}
 use Rattle.ntpd_serve.specs.declared.once.Common.{Common}
-use Rattle.ntpd_serve.specs.Once.{silences, context_at, IsAnswer, IsUnanswered, Follows, GivesResponse, GivesOne, OnlySilences, Happens, Causes, HasCome, IsServed}
+use Rattle.ntpd_serve.specs.Once.{silences, sent_events, context_at, IsAnswer, IsMade, IsUnanswered, Follows, GivesResponse, GivesAll, OnlySilences, Happens, Causes, HasCome, IsServed}
 
 -- no silence yet
 pub gained-no_silence : (told : Option (List Event)) → told ≡ gained told (silences 0)
@@ -70,14 +72,6 @@ pub Happens-no_memory : (common : Common) → Happens common (Failed NoMemory) [
 unfolding silences
 Happens-no_memory common = inr (NoMemory, refl, (0, omega arith, refl), refl)
 
--- one give of the response's datagram, once the clock was read
-pub GivesResponse-GivesOne : (keys : List Key) (came sent : ℕ) (response : Response) (ending : Ending) (to : Addr) (gram : List ℕ) (events : List Event) → grams_of keys came sent response ≡ gram ∷ [] → GivesOne ending to gram events → GivesResponse keys came response ending to events (sent ∷ [])
-GivesResponse-GivesOne keys came sent response (Answered count) to gram events one gives = (gram, sent, one, gives.0, gives.1, refl)
-GivesResponse-GivesOne keys came sent response (Silent why) to gram events one gives = absurd gives
-GivesResponse-GivesOne keys came sent response (Failed Port) to gram events one gives = (gram, sent, one, gives, refl)
-GivesResponse-GivesOne keys came sent response (Failed NoMemory) to gram events one gives = gives
-GivesResponse-GivesOne keys came sent response (Failed _) to gram events one gives = absurd gives
-
 -- a datagram that gets no answer
 IsUnanswered-response : (common : Common) (s : ServerState) (from : Addr) (octets : List ℕ) (came : ℕ) (response : Response) (why : Reason) (events : List Event) (readings : List ℕ) → IsResponse s common.keys (context_at common came) from octets response → response ≡ NoAnswer why → events ≡ [] → readings ≡ [] → IsUnanswered common s from octets why events (came ∷ readings)
 IsUnanswered-response common s from octets came response why events readings is same nothing unread = record {
@@ -88,26 +82,30 @@ IsUnanswered-response common s from octets came response why events readings is 
 }
 
 -- a datagram that is answered
-IsAnswer-response : (common : Common) (s : ServerState) (from : Addr) (octets : List ℕ) (came sent : ℕ) (response : Response) (gram readings : List ℕ) → IsResponse s common.keys (context_at common came) from octets response → grams_of common.keys came sent response ≡ gram ∷ [] → readings ≡ sent ∷ [] → IsAnswer common s from octets (came ∷ readings) gram
-IsAnswer-response common s from octets came sent response gram readings is one read = record {
+IsAnswer-response : (common : Common) (s : ServerState) (from : Addr) (octets : List ℕ) (came sent : ℕ) (response : Response) (grams : List (List ℕ)) (readings : List ℕ) → IsResponse s common.keys (context_at common came) from octets response → IsMade common.keys came sent response grams → readings ≡ sent ∷ [] → IsAnswer common s from octets (came ∷ readings) grams
+IsAnswer-response common s from octets came sent response grams readings is made read = record {
   response = response;
   came = came;
   sent = sent;
   read = ap (λ (more : List ℕ). came ∷ more) read;
   is_response = is;
-  one = one;
+  made = made;
 }
 
 -- what is done about the response to a datagram is what follows it
 pub Follows-GivesResponse : (common : Common) (s : ServerState) (from : Addr) (octets : List ℕ) (came : ℕ) (response : Response) (ending : Ending) (events : List Event) (readings : List ℕ) → IsResponse s common.keys (context_at common came) from octets response → GivesResponse common.keys came response ending from events readings → Follows common s ending from octets events (came ∷ readings)
-Follows-GivesResponse common s from octets came response (Answered count) events readings is (gram, sent, one, given, counted, read) =
-    (gram, IsAnswer-response common s from octets came sent response gram readings is one read, given, counted)
+Follows-GivesResponse common s from octets came response (Answered count) events readings is (grams, sent, made, given, read) =
+    (grams, IsAnswer-response common s from octets came sent response grams readings is made read, given.0, given.1)
 Follows-GivesResponse common s from octets came response (Silent why) events readings is (same, none, unread) =
     IsUnanswered-response common s from octets came response why events readings is same none unread
-Follows-GivesResponse common s from octets came response (Failed Port) events readings is (gram, sent, one, none, read) =
-    (gram, IsAnswer-response common s from octets came sent response gram readings is one read, none)
-Follows-GivesResponse common s from octets came response (Failed NoMemory) events readings is gives = gives
-Follows-GivesResponse common s from octets came response (Failed _) events readings is gives = absurd gives
+Follows-GivesResponse common s from octets came response (Failed Port) events readings is (grams, sent, made, given, read) =
+    (grams, IsAnswer-response common s from octets came sent response grams readings is made read, given)
+Follows-GivesResponse common s from octets came response (Failed NoMemory) events readings is (grams, sent, made, given, read) =
+    inr (grams, IsAnswer-response common s from octets came sent response grams readings is made read, given)
+Follows-GivesResponse common s from octets came response (Failed Words) events readings is (grams, sent, made, given, read) = absurd given
+Follows-GivesResponse common s from octets came response (Failed Host) events readings is (grams, sent, made, given, read) = absurd given
+Follows-GivesResponse common s from octets came response (Failed Quiet) events readings is (grams, sent, made, given, read) = absurd given
+Follows-GivesResponse common s from octets came response (Failed Closed) events readings is (grams, sent, made, given, read) = absurd given
 
 -- among silences alone there is no datagram
 no_datagram : (n : ℕ) (before after : List Event) (from : Addr) (octets : List ℕ) → replicate n Silence ≡ before ++ Took from octets ∷ after → ⊥
@@ -141,13 +139,37 @@ IsServed-HasCome common (Failed NoMemory) events readings status faults faults' 
 IsServed-HasCome common (Failed Port) events readings status faults faults' quiets quiets' is_closed sink sink' old new (inl comes) causes (inl (is, whole)) failed came port_well sink_well = absurd (port_well (causes.failed refl))
 IsServed-HasCome common (Failed _) events readings status faults faults' quiets quiets' is_closed sink sink' old new (inl comes) causes (inl (is, whole)) failed came port_well sink_well = absurd comes.follows
 
--- a datagram that was given, or could not be, is what is done about a response of just that one
-pub GivesResponse-one : (keys : List Key) (came sent : ℕ) (response : Response) (ending : Ending) (to : Addr) (gram : List ℕ) (events : List Event) → grams_of keys came sent response ≡ gram ∷ [] → GivesOne ending to gram events → GivesResponse keys came response ending to events (sent ∷ [])
-GivesResponse-one keys came sent response (Answered count) to gram events one gives = (gram, sent, one, gives.0, gives.1, refl)
-GivesResponse-one keys came sent response (Silent why) to gram events one gives = absurd gives
-GivesResponse-one keys came sent response (Failed Words) to gram events one gives = absurd gives
-GivesResponse-one keys came sent response (Failed Host) to gram events one gives = absurd gives
-GivesResponse-one keys came sent response (Failed Port) to gram events one gives = (gram, sent, one, gives, refl)
-GivesResponse-one keys came sent response (Failed Quiet) to gram events one gives = absurd gives
-GivesResponse-one keys came sent response (Failed Closed) to gram events one gives = absurd gives
-GivesResponse-one keys came sent response (Failed NoMemory) to gram events one gives = gives
+-- datagrams that were given, or could not be, are what is done about a response that is just these
+pub GivesResponse-all : (keys : List Key) (came sent : ℕ) (response : Response) (ending : Ending) (to : Addr) (grams : List (List ℕ)) (events : List Event) → IsMade keys came sent response grams → GivesAll ending to grams events → GivesResponse keys came response ending to events (sent ∷ [])
+GivesResponse-all keys came sent response (Answered count) to grams events made gives = (grams, sent, made, gives, refl)
+GivesResponse-all keys came sent response (Silent why) to grams events made gives = absurd gives
+GivesResponse-all keys came sent response (Failed why) to grams events made gives = (grams, sent, made, gives, refl)
+
+-- one datagram more was given
+pub gained-sent : (old between new : Option (List Event)) (to : Addr) (grams : List (List ℕ)) (place : ℕ) (gram : List ℕ) → place < length grams → gram ≡ slice_index_or grams place gram
+    → between ≡ gained old (sent_events to (take place grams)) → new ≡ gained between (Sent to gram ∷ []) → new ≡ gained old (sent_events to (take (place + 1) grams))
+gained-sent old between new to grams place gram within is before then =
+    then ∙ ap (λ (told : Option (List Event)). gained told (Sent to gram ∷ [])) before
+    ∙ gained-gained old (sent_events to (take place grams)) (Sent to gram ∷ [])
+    ∙ ap (gained old) (ap (λ (last : List ℕ). sent_events to (take place grams) ++ Sent to last ∷ []) is
+    ∙ sym (map-append (λ (sent : List ℕ). Sent to sent) (take place grams) (slice_index_or grams place gram ∷ []))
+    ∙ sym (ap (sent_events to) (take_more grams place gram within)))
+
+-- datagrams of so many octets at most have as many as a longer give may have
+pub each-fits : (few most : ℕ) (grams : List (List ℕ)) → few ≤ most → AllByRecursion (λ gram. length gram ≤ few) grams → AllByRecursion (λ gram. length gram ≤ most) grams
+each-fits few most [] more are = tt
+each-fits few most (gram ∷ grams) more are = (omega (arith, are.0, more), each-fits few most grams more are.1)
+
+-- what holds of each holds of the one at a place
+pub one-fits : (most : ℕ) (grams : List (List ℕ)) (place : ℕ) (gram : List ℕ) → AllByRecursion (λ gram. length gram ≤ most) grams → place < length grams → gram ≡ slice_index_or grams place gram → length gram ≤ most
+one-fits most [] place gram are within is = absurd (omega (arith, within))
+one-fits most (first ∷ grams) zero gram are within is = subst (λ (octets : List ℕ). length octets ≤ most) (sym is) are.0
+one-fits most (first ∷ grams) (suc place) gram are within is = one-fits most grams place gram are.1 (omega (arith, within)) is
+
+-- no datagram yet
+pub gained-none_sent : (told : Option (List Event)) (to : Addr) (grams : List (List ℕ)) → told ≡ gained told (sent_events to (take 0 grams))
+gained-none_sent told to grams = gained-nothing told
+
+-- all of them
+pub sent-all : (told old : Option (List Event)) (to : Addr) (grams : List (List ℕ)) (end : ℕ) → length grams ≤ end → told ≡ gained old (sent_events to (take end grams)) → told ≡ gained old (sent_events to grams)
+sent-all told old to grams end whole is = is ∙ ap (λ (all : List (List ℕ)). gained old (sent_events to all)) (take_all end grams whole)

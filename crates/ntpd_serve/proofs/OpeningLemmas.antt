@@ -11,7 +11,7 @@ use Rattle.access_rules.specs.Rules.{IsPlain, flags_of}
 use Rattle.fixed_time.specs.declared.time.Ntp64.{Ntp64}
 use Rattle.recency.specs.declared.row.Row.{Row}
 use Rattle.recency.specs.Rows.{find_row}
-use Rattle.sys_vars.specs.Answers.{gram_of}
+use Rattle.sys_vars.specs.Answers.{grams_of}
 use Rattle.sys_vars.specs.Opening.{IsOpening}
 use Rattle.sys_vars.specs.declared.answer.Answer.{Answer}
 use Rattle.sys_vars.specs.declared.answer.Answer.TheVariants.{Ignored as IgnoredLook, Given}
@@ -76,9 +76,9 @@ reply_to-Arrive origin s ask came opening =
     ap Time (ap judged (flags_of-opening origin s.published ask.from.ip opening.published) ∙ rate_verdict-no_flags s.published stamp row)
 
 -- each control request is answered
-pub reply_to-Look : (origin : Ntp64) (s : ServerState) (asked : Asked) (context : Context) → IsOpeningState origin s → reply_to s (Look asked context) ≡ Looked (Given s.published.epoch (gram_of s.published asked ∷ []))
+pub reply_to-Look : (origin : Ntp64) (s : ServerState) (asked : Asked) (context : Context) → IsOpeningState origin s → reply_to s (Look asked context) ≡ Looked (Given s.published.epoch (grams_of s.published asked))
 reply_to-Look origin s asked context opening =
-    let given : Answer = Given s.published.epoch (gram_of s.published asked ∷ []) in
+    let given : Answer = Given s.published.epoch (grams_of s.published asked) in
     let judged : ℕ → Answer = λ flags. cond (has_flag flags IGNORE || has_flag flags NOQUERY) IgnoredLook given in
     ap Looked (ap judged (flags_of-opening origin s.published asked.from.ip opening.published))
 

@@ -1,7 +1,8 @@
 -- The numbers and texts of the program, by hand. They are our own rules.
 use Rattle.std.proofs.Common.{◌≡◌, codes, refl}
+use Rattle.std.specs.Fmt.{digits}
 use Rattle.server_core.specs.declared.response.Silence.TheVariants.{Limited}
-use Rattle.ntpd_serve.specs.declared.ending.Ending.TheVariants.{Silent, Failed}
+use Rattle.ntpd_serve.specs.declared.ending.Ending.TheVariants.{Answered, Silent, Failed}
 use Rattle.ntpd_serve.specs.declared.ending.Failure.TheVariants.{Quiet}
 use Rattle.ntpd_serve.specs.declared.once.TheConstants.{PATIENCE}
 use Rattle.ntpd_serve.specs.declared.usage.TheConstants.{VERSION}
@@ -12,6 +13,11 @@ PATIENCE-is = refl
 
 VERSION-is : VERSION.now ≡ codes "ntpd 0.1.0\n"
 VERSION-is = refl
+
+-- the line of an answer tells how many datagrams it had
+two : line_of (Answered 2) ≡ codes "answered 2\n"
+unfolding line_of digits
+two = refl
 
 -- lines without a number
 limited : line_of (Silent Limited) ≡ codes "silent limited\n"

@@ -1,5 +1,5 @@
 -- What `ntpd once` does at its port and its clock: one datagram, answered by a server that has just begun (our own rule, over RFC 5905 and RFC 9327).
-use Rattle.std.specs.Prelude.{◌≡◌, ◌≢◌, ◌⊎◌, ◌<◌, ◌*◌, ◌^◌, ℕ, List, [], ◌∷◌, ◌++◌, replicate, Bool, IsTrue}
+use Rattle.std.specs.Prelude.{◌≡◌, ◌≢◌, ◌⊎◌, ◌<◌, ◌*◌, ◌^◌, ℕ, List, [], ◌∷◌, ◌++◌, length, map, take, replicate, Bool, IsTrue}
 use Rattle.fixed_time.specs.declared.time.Ntp64.{Ntp64}
 use Rattle.mac_keys.specs.declared.keys.Key.{Key}
 use Rattle.net_addr.specs.declared.addr.Addr.{Addr}
@@ -47,15 +47,27 @@ pub record IsOpeningState (origin : Ntp64) (s : ServerState) : Type 0 where
 abbrev pub context_at : Common → ℕ → Context
 context_at common came = record { salt = common.salt; origin = common.origin; moment = came }
 
--- The datagram is answered by this one. The clock was read when the datagram was classed, and again
+-- the gives of these datagrams to this address, in their order
+abbrev pub sent_events : Addr → List (List ℕ) → List Event
+sent_events to grams = map (λ gram. Sent to gram) grams
+
+-- a front of these datagrams was given, and not all of them
+abbrev pub IsCutShort : Addr → List (List ℕ) → List Event → Type 0
+IsCutShort to grams events = (given : ℕ) × (given < length grams) × (events ≡ sent_events to (take given grams))
+
+-- the response to what came at one moment is these datagrams, one at least, where it is given at another
+abbrev pub IsMade : List Key → ℕ → ℕ → Response → List (List ℕ) → Type 0
+IsMade keys came sent response grams = (grams_of keys came sent response ≡ grams) × (0 < length grams)
+
+-- The datagram is answered by these, in their order. The clock was read when the datagram was classed, and once again
 -- before the answer was given.
-pub record IsAnswer (common : Common) (s : ServerState) (from : Addr) (octets : List ℕ) (readings : List ℕ) (gram : List ℕ) : Type 0 where
+pub record IsAnswer (common : Common) (s : ServerState) (from : Addr) (octets : List ℕ) (readings : List ℕ) (grams : List (List ℕ)) : Type 0 where
   pub response : Response
   pub came : ℕ
   pub sent : ℕ
   pub read : readings ≡ came ∷ sent ∷ []
   pub is_response : IsResponse s common.keys (context_at common came) from octets response
-  pub one : grams_of common.keys came sent response ≡ gram ∷ []
+  pub made : IsMade common.keys came sent response grams
 
 -- The datagram gets no answer, for this reason, and none is given. The clock was read once.
 pub record IsUnanswered (common : Common) (s : ServerState) (from : Addr) (octets : List ℕ) (why : Reason) (events : List Event) (readings : List ℕ) : Type 0 where
@@ -64,16 +76,19 @@ pub record IsUnanswered (common : Common) (s : ServerState) (from : Addr) (octet
   pub is_response : IsResponse s common.keys (context_at common came) from octets (NoAnswer why)
   pub none : events ≡ []
 
--- what follows a datagram at the port of a server in this state, and what is read of the clock, by how the call ends
+-- what follows a datagram at the port of a server in this state, and what is read of the clock, by how the call ends;
+-- where the port fails, or has no memory, a front of the answer was given
 abbrev pub Follows : Common → ServerState → Ending → Addr → List ℕ → List Event → List ℕ → Type 0
 Follows common s (Answered count) from octets events readings =
-    (gram : List ℕ) × IsAnswer common s from octets readings gram
-    × (events ≡ Sent from gram ∷ []) × (count ≡ 1)
+    (grams : List (List ℕ)) × IsAnswer common s from octets readings grams
+    × (events ≡ sent_events from grams) × (count ≡ length grams)
 Follows common s (Silent why) from octets events readings =
     IsUnanswered common s from octets why events readings
 Follows common s (Failed Port) from octets events readings =
-    (gram : List ℕ) × IsAnswer common s from octets readings gram × (events ≡ [])
-Follows common s (Failed NoMemory) from octets events readings = events ≡ []
+    (grams : List (List ℕ)) × IsAnswer common s from octets readings grams × IsCutShort from grams events
+Follows common s (Failed NoMemory) from octets events readings =
+    (events ≡ [])
+    ⊎ ((grams : List (List ℕ)) × IsAnswer common s from octets readings grams × IsCutShort from grams events)
 Follows common s (Failed _) from octets events readings = ⊥
 
 -- a datagram came after fewer silences than end the call, to a server that has just begun and so refuses nobody
@@ -102,26 +117,21 @@ Happens common ending events readings =
     Comes common ending events readings
     ⊎ ((why : Failure) × (ending ≡ Failed why) × OnlySilences why events × (readings ≡ []))
 
--- one datagram was given, or the port failed or had no memory
-abbrev pub GivesOne : Ending → Addr → List ℕ → List Event → Type 0
-GivesOne (Answered count) to octets events = (events ≡ Sent to octets ∷ []) × (count ≡ 1)
-GivesOne (Failed Port) to octets events = events ≡ []
-GivesOne (Failed NoMemory) to octets events = events ≡ []
-GivesOne _ to octets events = ⊥
+-- these datagrams were given, or the port failed or had no memory before the last
+abbrev pub GivesAll : Ending → Addr → List (List ℕ) → List Event → Type 0
+GivesAll (Answered count) to grams events = (events ≡ sent_events to grams) × (count ≡ length grams)
+GivesAll (Failed Port) to grams events = IsCutShort to grams events
+GivesAll (Failed NoMemory) to grams events = IsCutShort to grams events
+GivesAll _ to grams events = ⊥
 
--- What is done about the response to what came at one moment, by how the call ends: where anything is
--- given, the clock is read before.
+-- What is done about the response to what came at one moment, by how the call ends: nothing, for a reason; or the clock
+-- is read, and then its datagrams are given.
 abbrev pub GivesResponse : List Key → ℕ → Response → Ending → Addr → List Event → List ℕ → Type 0
-GivesResponse keys came response (Answered count) to events readings =
-    (gram : List ℕ) × (sent : ℕ) × (grams_of keys came sent response ≡ gram ∷ [])
-    × (events ≡ Sent to gram ∷ []) × (count ≡ 1) × (readings ≡ sent ∷ [])
 GivesResponse keys came response (Silent why) to events readings =
     (response ≡ NoAnswer why) × (events ≡ []) × (readings ≡ [])
-GivesResponse keys came response (Failed Port) to events readings =
-    (gram : List ℕ) × (sent : ℕ) × (grams_of keys came sent response ≡ gram ∷ [])
-    × (events ≡ []) × (readings ≡ sent ∷ [])
-GivesResponse keys came response (Failed NoMemory) to events readings = events ≡ []
-GivesResponse keys came response (Failed _) to events readings = ⊥
+GivesResponse keys came response ending to events readings =
+    (grams : List (List ℕ)) × (sent : ℕ) × IsMade keys came sent response grams
+    × GivesAll ending to grams events × (readings ≡ sent ∷ [])
 
 -- what stands behind an ending: faults of the port that rose, takes that found nothing, or its end
 pub record Causes (ending : Ending) (faults faults' quiets quiets' : ℕ) (is_closed : Bool) : Type 0 where

@@ -8,7 +8,7 @@ use server_core::Silence;
 #[derive(Clone, Copy, Debug, PartialEq, Eq)]
 pub enum Ending {
     /// It gave an answer of so many datagrams.
-    Answered(u8),
+    Answered(u64),
     /// The datagram gets no answer, for this reason.
     Silent(Silence),
     /// It did not come to serve one, or could not.

@@ -1,6 +1,6 @@
-ghost use Rattle.std.specs.Prelude.{◌≡◌, [], ◌∷◌};
+ghost use Rattle.std.specs.Prelude.{◌≡◌};
 ghost use Rattle.fixed_time.specs.declared.time.Ntp64.{Ntp64};
-ghost use Rattle.sys_vars.specs.Answers.{gram_of};
+ghost use Rattle.sys_vars.specs.Answers.{grams_of};
 ghost use Rattle.sys_vars.specs.declared.answer.Answer.{Answer};
 ghost use Rattle.server_core.specs.States.{ServerState, reply_to};
 ghost use Rattle.server_core.specs.Verdicts.{basis_of};
@@ -22,10 +22,11 @@ pub fn each_request_is_served(origin: Ntp64, ask: &Ask, came: u64)
         ≡ Reply.Time (Verdict.Served (basis_of server.published)) }
 {}
 
-/// A server that has just begun answers each control request by one datagram.
+/// A server that has just begun answers each control request, by the datagrams of the record that it
+/// publishes.
 pub fn each_control_request_is_answered(origin: Ntp64, asked: &Asked, context: &Context)
     ghost server: { ServerState }
     requires { IsOpeningState origin server }
     ensures { reply_to server (Op.Look asked.now context.now) ≡ Reply.Looked (Answer.Given
-        server.published.epoch (gram_of server.published asked.now ∷ [])) }
+        server.published.epoch (grams_of server.published asked.now)) }
 {}

@@ -1,7 +1,7 @@
 //! The program `ntpd`: an NTP server. Today it serves one datagram, by `once ADDR:PORT`.
 //!
 //! Layer 7. Stands on: `server_core`, `recency`, `access_rules`, `sys_vars`, `mac_keys`,
-//! `edge_traits`, `net_addr`, `fixed_time`.
+//! `command_line`, `edge_traits`, `net_addr`, `fixed_time`.
 //! Promises: `once` gives the defined answer to one datagram and nothing else, and prints the line
 //! of its status.
 #![tactic(auto)]
@@ -24,10 +24,10 @@ use std::process::ExitCode;
 
 fn main(rt: HostRuntime) -> ExitCode {
     let mut out = StandardOutput::new(rt);
-    let status = match usage::words(&rt) {
+    let status = match command_line::words(&rt) {
         Err(_) => report(&Ending::Failed(Failure::NoMemory), &mut out),
-        Ok(words) => match usage::notice_of(words.as_slice()) {
-            Some(notice) => usage::print(notice, &mut out),
+        Ok(words) => match command_line::notice_of(words.as_slice()) {
+            Some(notice) => command_line::print(usage::text_of(notice), &mut out),
             None => ntpd(
                 &rt,
                 rt.alloc(),

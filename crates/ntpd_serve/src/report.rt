@@ -54,7 +54,7 @@ fn put_ending(line: &mut Octets, ending: &Ending)
 fn put_silence(line: &mut Octets, why: &Silence)
     requires { length line.old ≤ 200 }
     ensures text { line.new ≡ line.old ++ silence_text why.now }
-    ensures short { length line.new ≤ length line.old + 20 }
+    ensures short { length line.new ≤ length line.old + 30 }
 {
     match why {
         Silence::Unheard(why) => put_unheard(line, why),
@@ -82,23 +82,23 @@ fn failure_word(why: &Failure) -> &'static [u8]
 fn put_unheard(line: &mut Octets, why: &Unheard)
     requires { length line.old ≤ 200 }
     ensures text { line.new ≡ line.old ++ unheard_text why.now }
-    ensures short { length line.new ≤ length line.old + 20 }
+    ensures short { length line.new ≤ length line.old + 30 }
 {
     match why {
-        Unheard::Packet(number) => put_numbered(line, b"packet ", *number),
-        Unheard::Trailer(number) => put_numbered(line, b"trailer ", *number),
-        Unheard::Frame(number) => put_numbered(line, b"frame ", *number),
-        Unheard::Unserved(mode) => put_numbered(line, b"unserved ", *mode),
+        Unheard::Packet(number) => put_numbered(line, b"packet ", u64::from(*number)),
+        Unheard::Trailer(number) => put_numbered(line, b"trailer ", u64::from(*number)),
+        Unheard::Frame(number) => put_numbered(line, b"frame ", u64::from(*number)),
+        Unheard::Unserved(mode) => put_numbered(line, b"unserved ", u64::from(*mode)),
         Unheard::NotRequest => line.put(b"not-request"),
     }
 }
 
 /// Appends a word and a decimal number.
-fn put_numbered(line: &mut Octets, word: &[u8], number: u8)
+fn put_numbered(line: &mut Octets, word: &[u8], number: u64)
     requires line { length line.old ≤ 300 }
     requires word { length word.now ≤ 10 }
     ensures text { line.new ≡ line.old ++ word.now ++ decimal number }
-    ensures short { length line.new ≤ length line.old + length word.now + 3 }
+    ensures short { length line.new ≤ length line.old + length word.now + 20 }
 {
     let mut digits = Buffer::new();
     line.put(word);

@@ -1,18 +1,19 @@
-ghost use Rattle.std.specs.Prelude.{◌≡◌, ◌≤◌, ℕ, List, length};
+ghost use Rattle.std.specs.Prelude.{◌≡◌, ◌≤◌, ℕ, List, [], ◌∷◌, length};
+ghost use Rattle.std.specs.List.{AllByRecursion};
 ghost use Rattle.edge_traits.specs.Ports.{IsPortKept};
 ghost use Rattle.edge_traits.specs.Told.{gained, Grows};
 ghost use Rattle.edge_traits.specs.declared.port.Event.{Event};
 ghost use Rattle.server_core.specs.Responses.{IsGivable};
-ghost use Rattle.ntpd_serve.specs.Once.{Causes, GivesOne, GivesResponse};
+ghost use Rattle.ntpd_serve.specs.Once.{Causes, GivesAll, GivesResponse};
 
 use crate::ending::{Ending, Failure};
-use edge_traits::{Clock, Octets, Port, PortFault};
+use edge_traits::{Clock, Grams, Octets, Port, PortFault};
 use mac_keys::KeyTable;
 use net_addr::Addr;
 use server_core::{Response, rate_reply_into, time_reply_into};
 
-/// Gives the response to what came at this moment. The clock is read where anything is given, and a
-/// reply to a request for the time is spelled into `lent`, in place of what was there.
+/// Gives the response to what came at this moment. The clock is read once where anything is given,
+/// and a reply to a request for the time is spelled into `lent`, in place of what was there.
 pub fn send_response<P: Port, C: Clock>(
     port: &mut P,
     clock: &mut C,
@@ -46,7 +47,7 @@ pub fn send_response<P: Port, C: Clock>(
         }
         Response::Grams(grams) => {
             let _sent = clock.now();
-            send(port, to, grams.get(0))
+            send_all(port, to, grams)
         }
     }
 }
@@ -54,7 +55,7 @@ pub fn send_response<P: Port, C: Clock>(
 /// Gives one datagram.
 fn send<P: Port>(port: &mut P, to: &Addr, datagram: &Octets) -> Ending
     requires most { length datagram.now ≤ P.most port.old }
-    ensures given { (events : List Event) × GivesOne result to.now datagram.now events
+    ensures given { (events : List Event) × GivesAll result to.now (datagram.now ∷ []) events
         × (P.trace port.new ≡ gained (P.trace port.old) events) }
     ensures causes { Causes result (P.faults port.old) (P.faults port.new)
         (P.quiets port.old) (P.quiets port.new) (P.is_closed port.new) }
@@ -65,6 +66,25 @@ fn send<P: Port>(port: &mut P, to: &Addr, datagram: &Octets) -> Ending
         Err(PortFault::Failed) => Ending::Failed(Failure::Port),
         Err(PortFault::NoMemory) => Ending::Failed(Failure::NoMemory),
     }
+}
+
+/// Gives datagrams in their order, up to one that the port does not give.
+fn send_all<P: Port>(port: &mut P, to: &Addr, grams: &Grams) -> Ending
+    requires { AllByRecursion (λ gram. length gram ≤ P.most port.old) grams.now }
+    ensures given { (events : List Event) × GivesAll result to.now grams.now events
+        × (P.trace port.new ≡ gained (P.trace port.old) events) }
+    ensures causes { Causes result (P.faults port.old) (P.faults port.new)
+        (P.quiets port.old) (P.quiets port.new) (P.is_closed port.new) }
+    ensures kept { IsPortKept P.faults P.quiets P.address P.most port.old port.new }
+{
+    for place in 0..grams.len() {
+        match port.give(to, grams.get(place).as_slice()) {
+            Ok(()) => {}
+            Err(PortFault::Failed) => return Ending::Failed(Failure::Port),
+            Err(PortFault::NoMemory) => return Ending::Failed(Failure::NoMemory),
+        }
+    }
+    Ending::Answered(grams.len() as u64)
 }
 
 #[cfg(test)]

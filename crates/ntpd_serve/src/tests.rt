@@ -43,17 +43,6 @@ const REPLY: [u8; 48] = *b"\xe4\x00\x06\xec\x00\x00\x00\x00\x00\x10\x00\x00INIT\
 const MAC: [u8; 20] = *b"\x00\x00\x00\x07\
     \x76\x8a\x48\x46\xbd\x50\xba\x51\xeb\x05\xb0\xfa\xe4\x23\xe4\xba";
 
-/// That of REPLY, by the same.
-const REPLY_MAC: [u8; 20] = *b"\x00\x00\x00\x07\
-    \xa2\x7f\xec\xd7\x0a\x9e\x37\x05\xd6\x16\x84\x4d\x71\xfa\x91\xcb";
-
-/// An extension field.
-const FIELD: [u8; 16] = *b"\x00\x02\x00\x10field of 16.";
-
-/// The MAC of REQUEST and FIELD, by the same.
-const MAC_WITH_FIELD: [u8; 20] = *b"\x00\x00\x00\x07\
-    \xb5\xa6\xdd\xca\xa0\x81\x8f\x48\x0d\xb9\x44\x4e\x4c\x0d\x42\x5b";
-
 /// A crypto-NAK (RFC 5905, section 9.2).
 const NAK: [u8; 4] = [0; 4];
 
@@ -62,6 +51,12 @@ const READ_STRATUM: [u8; 20] = *b"\x16\x02\x00\x01\x00\x00\x00\x00\x00\x00\x00\x
 
 /// The answer to it of a server that knows no time yet.
 const STRATUM: [u8; 24] = *b"\x16\x82\x00\x01\xc0\x11\x00\x00\x00\x00\x00\x0cstratum=16\r\n";
+
+/// A control request: read the status of the system.
+const READ_STATUS: [u8; 12] = *b"\x16\x01\x00\x01\x00\x00\x00\x00\x00\x00\x00\x00";
+
+/// The answer to it of a server that knows no time yet and has no peers.
+const STATUS: [u8; 12] = *b"\x16\x81\x00\x01\xc0\x11\x00\x00\x00\x00\x00\x00";
 
 fn octets_of(bytes: &[u8]) -> Octets {
     let mut octets = Octets::new();
@@ -83,17 +78,6 @@ fn behind(header: &[u8], field: &[u8], mac: &[u8]) -> Octets {
     let mut octets = octets_of(header);
     append(&mut octets, field);
     append(&mut octets, mac);
-    octets
-}
-
-/// These octets, but for the one at this place.
-fn with(bytes: &[u8], place: usize, octet: u8) -> Octets {
-    let mut octets = Octets::new();
-    for i in 0..bytes.len() {
-        if octets.len() < MAX_OCTETS {
-            octets.push(if i == place { octet } else { bytes[i] });
-        }
-    }
     octets
 }
 
@@ -184,86 +168,9 @@ fn serves(
     Ok(is_so(&run, 0, printed, gave))
 }
 
-/// Whether `once` prints this and gives nothing where its port finds this datagram.
-fn is_silent(
-    rt: &(impl Threads + Wait),
-    alloc: Global,
-    datagram: &[u8],
-    printed: &str,
-) -> Result<bool, AllocError> {
-    serves(rt, alloc, datagram, printed, b"")
-}
-
 #[test]
 fn a_request_gets_the_reply_of_a_server_that_knows_no_time(rt: HostRuntime) -> Result<(), Fail> {
     assert!(rt; serves(&rt, rt.alloc(), &REQUEST, "answered 1\n", &REPLY)?);
-    Ok(())
-}
-
-#[test]
-fn what_is_no_packet_gets_no_answer(rt: HostRuntime) -> Result<(), Fail> {
-    let alloc = rt.alloc();
-    assert!(rt; is_silent(&rt, alloc, b"", "silent packet 1\n")?);
-    assert!(rt; is_silent(&rt, alloc, &REQUEST[..1], "silent packet 1\n")?);
-    assert!(rt; is_silent(&rt, alloc, &REQUEST[..47], "silent packet 1\n")?);
-    let version_0 = with(&REQUEST, 0, 0x03);
-    assert!(rt; is_silent(&rt, alloc, version_0.as_slice(), "silent packet 2\n")?);
-    let version_5 = with(&REQUEST, 0, 0x2b);
-    assert!(rt; is_silent(&rt, alloc, version_5.as_slice(), "silent packet 2\n")?);
-    let broadcast = with(&REQUEST, 0, 0x25);
-    assert!(rt; is_silent(&rt, alloc, broadcast.as_slice(), "silent unserved 5\n")?);
-    assert!(rt; is_silent(&rt, alloc, &REPLY, "silent unserved 4\n")?);
-    assert!(rt; is_silent(&rt, alloc, b"\x27", "silent unserved 7\n")?);
-    assert!(rt; is_silent(&rt, alloc, b"\xc0", "silent unserved 0\n")?);
-    Ok(())
-}
-
-#[test]
-fn what_follows_a_header_is_refused_by_its_number(rt: HostRuntime) -> Result<(), Fail> {
-    let alloc = rt.alloc();
-    let ragged = behind(&REQUEST, b"", b"\x00\x00\x00");
-    assert!(rt; is_silent(&rt, alloc, ragged.as_slice(), "silent trailer 1\n")?);
-    let short_field = behind(&REQUEST, b"\x00\x01\x00\x0c", &[0; 24]);
-    assert!(rt; is_silent(&rt, alloc, short_field.as_slice(), "silent trailer 2\n")?);
-    let long_field = behind(&REQUEST, b"\x00\x01\x00\x20", &[0; 24]);
-    assert!(rt; is_silent(&rt, alloc, long_field.as_slice(), "silent trailer 3\n")?);
-    let no_mac = behind(&REQUEST, b"", &[0; 8]);
-    assert!(rt; is_silent(&rt, alloc, no_mac.as_slice(), "silent trailer 4\n")?);
-    Ok(())
-}
-
-/// Whether a server that knows the key ends its reply so, where this follows the request.
-fn ends_with(alloc: Global, field: &[u8], mac: &[u8], end: &[u8]) -> Result<bool, Fail> {
-    let datagram = behind(&REQUEST, field, mac);
-    let mut port = MemoryPort::of(alloc, one(alloc, datagram.as_slice())?, Vec::new(alloc));
-    let mut clock = MemoryClock::of(vec![in alloc; SECOND]?);
-    let mut out = MemorySink::of(alloc, Vec::new(alloc));
-    let common = Common {
-        keys: read_keys(alloc, b"7 MD5 secret").ok().ok_or("the key")?,
-        salt: Salt([0; 16]),
-        origin: ORIGIN,
-    };
-    let status = serve_once(alloc, &mut port, &mut clock, &common, &mut out);
-    let wanted = behind(&REPLY, b"", end);
-    Ok(status == Status(0) && given(port.events()).as_slice() == wanted.as_slice())
-}
-
-#[test]
-fn the_mac_of_a_request_decides_what_ends_the_reply(rt: HostRuntime) -> Result<(), Fail> {
-    let alloc = rt.alloc();
-    assert!(rt; ends_with(alloc, b"", b"", b"")?);
-    assert!(rt; ends_with(alloc, b"", &MAC, &REPLY_MAC)?);
-    assert!(rt; ends_with(alloc, &FIELD, &MAC_WITH_FIELD, &REPLY_MAC)?);
-    assert!(rt;
-        ends_with(alloc, &FIELD, &MAC, &NAK)?,
-        "the MAC of the header alone"
-    );
-    let one_bit = with(&MAC, 19, MAC[19] ^ 1);
-    assert!(rt; ends_with(alloc, b"", one_bit.as_slice(), &NAK)?);
-    let unknown_key = with(&MAC, 3, 8);
-    assert!(rt; ends_with(alloc, b"", unknown_key.as_slice(), &NAK)?);
-    assert!(rt; ends_with(alloc, b"", &MAC[..4], &NAK)?, "a key id alone");
-    assert!(rt; ends_with(alloc, b"", &NAK, &NAK)?);
     Ok(())
 }
 
@@ -294,36 +201,51 @@ fn answers(
 
 #[test]
 fn a_control_request_gets_its_answer(rt: HostRuntime) -> Result<(), Fail> {
-    let alloc = rt.alloc();
-    assert!(rt; answers(&rt, alloc, &READ_STRATUM, &STRATUM)?);
-    let unknown_name = b"\x16\x02\x00\x01\x00\x00\x00\x00\x00\x00\x00\x04nope";
-    let bad_name = b"\x16\xc2\x00\x01\x05\x00\x00\x00\x00\x00\x00\x00";
-    assert!(rt; answers(&rt, alloc, unknown_name, bad_name)?);
-    let association_9 = with(&READ_STRATUM, 7, 9);
-    let bad_association = b"\x16\xc2\x00\x01\x04\x00\x00\x09\x00\x00\x00\x00";
-    assert!(rt; answers(&rt, alloc, association_9.as_slice(), bad_association)?);
-    let operation_3 = b"\x16\x03\x00\x01\x00\x00\x00\x00\x00\x00\x00\x00";
-    let bad_operation = b"\x16\xc3\x00\x01\x03\x00\x00\x00\x00\x00\x00\x00";
-    assert!(rt; answers(&rt, alloc, operation_3, bad_operation)?);
+    assert!(rt; answers(&rt, rt.alloc(), &READ_STRATUM, &STRATUM)?);
     Ok(())
 }
 
+/// A text so many times, in front of what ends it.
+fn times(front: &[u8], count: u32, text: &[u8], end: &[u8]) -> Octets {
+    let mut octets = octets_of(front);
+    for _ in 0..count {
+        append(&mut octets, text);
+    }
+    append(&mut octets, end);
+    octets
+}
+
+// `version="ntpd profile 1"` stands 17 times in the first datagram, of 468 octets, and 3 times in
+// the second, of 103.
 #[test]
-fn what_is_no_control_request_gets_no_answer(rt: HostRuntime) -> Result<(), Fail> {
-    let alloc = rt.alloc();
-    assert!(rt; is_silent(&rt, alloc, &READ_STRATUM[..1], "silent frame 1\n")?);
-    assert!(rt; is_silent(&rt, alloc, &READ_STRATUM[..11], "silent frame 1\n")?);
-    let version_0 = with(&READ_STRATUM, 0, 0x06);
-    assert!(rt; is_silent(&rt, alloc, version_0.as_slice(), "silent frame 2\n")?);
-    let version_5 = with(&READ_STRATUM, 0, 0x2e);
-    assert!(rt; is_silent(&rt, alloc, version_5.as_slice(), "silent frame 2\n")?);
-    let long = with(&READ_STRATUM, 11, 9);
-    assert!(rt; is_silent(&rt, alloc, long.as_slice(), "silent frame 4\n")?);
-    assert!(rt; is_silent(&rt, alloc, &STRATUM, "silent not-request\n")?);
-    let error = with(&READ_STRATUM, 1, 0x42);
-    assert!(rt; is_silent(&rt, alloc, error.as_slice(), "silent not-request\n")?);
-    let more = with(&READ_STRATUM, 1, 0x22);
-    assert!(rt; is_silent(&rt, alloc, more.as_slice(), "silent not-request\n")?);
+fn a_long_answer_takes_two_datagrams(rt: HostRuntime) -> Result<(), Fail> {
+    let request = times(
+        b"\x16\x02\x00\x02\x00\x00\x00\x00\x00\x00\x00\x9f",
+        19,
+        b"version,",
+        b"version\x00",
+    );
+    let first = times(
+        b"\x16\xa2\x00\x02\xc0\x11\x00\x00\x00\x00\x01\xd4resp=0x0000000000000000",
+        17,
+        b", version=\"ntpd profile 1\"",
+        b",\r\n",
+    );
+    let second = times(
+        b"\x16\x82\x00\x02\xc0\x11\x00\x00\x01\xd4\x00\x67resp=0x0000000000000000",
+        3,
+        b", version=\"ntpd profile 1\"",
+        b"\r\n\x00",
+    );
+    let answer = behind(first.as_slice(), b"", second.as_slice());
+    let is_given = serves(
+        &rt,
+        rt.alloc(),
+        request.as_slice(),
+        "answered 2\n",
+        answer.as_slice(),
+    )?;
+    assert!(rt; is_given);
     Ok(())
 }
 
@@ -456,7 +378,7 @@ fn is_answered(
     Ok(is_sent && status == Status(0) && is_taken && taken.as_slice() == answer)
 }
 
-/// Serves a request for the time and a control request over two sockets of this machine.
+/// Serves a request for the time and control requests over two sockets of this machine.
 fn check_sockets(
     rt: &impl Abort,
     alloc: Global,

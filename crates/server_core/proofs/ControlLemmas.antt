@@ -1,46 +1,26 @@
--- A control message asks for one thing, and names no more variables than have room.
-use Rattle.std.proofs.Common.{◌≡◌, ◌≢◌, ◌≤◌, ◌<◌, ◌+◌, ◌*◌, ◌⊎◌, ℕ, zero, suc, List, [], ◌∷◌, ◌++◌, length, take, slice_index, slice_index_or, Result, Ok, Err, refl, sym, ap, subst, ◌∙◌, inl, inr, arith, length-append, length-take}
+-- A control message asks for one thing.
+use Rattle.std.proofs.Common.{◌≡◌, ◌≢◌, ◌≤◌, ◌<◌, ◌+◌, ◌⊎◌, ℕ, suc, List, [], ◌∷◌, ◌++◌, length, take, slice_index, slice_index_or, Result, Ok, Err, refl, sym, ap, subst, ◌∙◌, inl, inr, arith, length-take}
 use Rattle.std.proofs.lemmas.Bool.{cases_lt}
 use Rattle.std.proofs.lemmas.List.{take_more, take_all, get_or-take}
 use Rattle.std.proofs.Math.Bridge.{le_prop}
-use Rattle.std.specs.List.{AllByRecursion}
 use Rattle.net_addr.specs.declared.addr.Addr.{Addr}
 use Rattle.mode6_frame.specs.declared.items.Item.{Item}
 use Rattle.mode6_frame.specs.declared.items.ItemFault.{ItemFault}
 use Rattle.mode6_frame.specs.declared.items.ItemFault.TheVariants.{NoMemory}
 use Rattle.mode6_frame.specs.declared.message.TheConstants.{HEAD_LEN}
 use Rattle.mode6_frame.specs.declared.message.Head.{Head}
-use Rattle.mode6_frame.specs.Frames.{FrameParts, FitsFrame, IsFrame, head_of, first_octet_of, mode_of}
-use Rattle.mode6_frame.specs.Items.{Slot, Blank, Named, IsSlot, slot_octets, slot_items, closed_octets, items_of, comma, IsItemText}
+use Rattle.mode6_frame.specs.Frames.{FrameParts, IsFrame, head_of, first_octet_of, mode_of}
+use Rattle.mode6_frame.specs.Items.{IsItemText}
 use Rattle.mode6_frame.specs.Refusals.{IsRefusedAt, refused_nowhere}
 use Rattle.sys_vars.specs.declared.asked.TheConstants.{MAX_NAMES}
 use Rattle.sys_vars.specs.declared.asked.Asked.{Asked}
 use Rattle.sys_vars.specs.declared.asked.What.{What}
-use Rattle.sys_vars.specs.declared.asked.What.TheVariants.{Vars, Bad}
+use Rattle.sys_vars.specs.declared.asked.What.TheVariants.{Status, Vars, Bad}
 use Rattle.sys_vars.specs.declared.names.TheConstants.{UNKNOWN_NAME}
 use Rattle.ntp_packet.specs.declared.leap_version_mode.TheConstants.{MODE_CONTROL}
 use Rattle.mode6_frame.specs.declared.errors.TheConstants.{BAD_FORMAT, BAD_OPERATION}
-use Rattle.mode6_frame.specs.declared.operations.TheConstants.{OP_READ_VARIABLES}
-use Rattle.server_core.specs.Control.{IsNumberOf, IsNumberAsked, AreNumbersAsked, IsWhat, IsHeadOf, IsAskedOf}
-
--- a slot has two octets for each of its items, if its comma is counted
-slot_room : (slot : Slot) → IsSlot slot → 2 * length (slot_items slot) ≤ length (slot_octets slot) + 1
-slot_room (Blank white) is = omega arith
-slot_room (Named before name behind) is =
-    omega (arith, is.1, length-append (before ++ name) behind, length-append before name)
-
--- and so have slots that commas end
-closed_room : (closed : List Slot) → AllByRecursion IsSlot closed → 2 * length (items_of closed) ≤ length (closed_octets closed)
-closed_room [] are = omega arith
-closed_room (slot ∷ closed) are =
-    omega (arith, slot_room slot are.0, closed_room closed are.1, length-append (slot_octets slot) (comma ∷ closed_octets closed), length-append (slot_items slot) (items_of closed))
-
--- a text names no more items than it has room for: an octet each, and a comma between two
-pub item_room : (text : List ℕ) (items : List Item) → IsItemText text items → 2 * length items ≤ length text + 1
-item_room text items is =
-    let spelled : length text ≡ length (closed_octets is.closed) + length (slot_octets is.last) = ap length is.spelled ∙ length-append (closed_octets is.closed) (slot_octets is.last) in
-    let named : length items ≡ length (items_of is.closed) + length (slot_items is.last) = ap length is.named ∙ length-append (items_of is.closed) (slot_items is.last) in
-    omega (arith, spelled, named, closed_room is.closed is.closed_slots, slot_room is.last is.last_slot)
+use Rattle.mode6_frame.specs.declared.operations.TheConstants.{OP_READ_STATUS, OP_READ_VARIABLES}
+use Rattle.server_core.specs.Control.{IsNumberAsked, AreNumbersAsked, IsWhat, IsHeadOf, IsAskedOf}
 
 -- one more item, and one more number
 pub AreNumbersAsked-push : (assoc : ℕ) (items : List Item) (numbers : List ℕ) (item : Item) (number : ℕ) → AreNumbersAsked assoc items numbers → IsNumberAsked assoc item.name number
@@ -66,19 +46,14 @@ unknown_or_known number = from_order (cases_lt number UNKNOWN_NAME) (cases_lt UN
     from_order (inr not_below) (inl above) = inr (λ e. omega (arith, above, e))
     from_order (inr not_below) (inr not_above) = inl (omega (arith, not_below, not_above))
 
--- a name has one number
-number_same : (name : List ℕ) (m n : ℕ) → IsNumberOf name m → IsNumberOf name n → m ≡ n
-number_same name m n first second = by_cases (unknown_or_known m) (unknown_or_known n)
+-- a name is asked for by one number
+number_same : (assoc : ℕ) (name : List ℕ) (m n : ℕ) → IsNumberAsked assoc name m → IsNumberAsked assoc name n → m ≡ n
+number_same assoc name m n first second = by_cases (unknown_or_known m) (unknown_or_known n)
   where
     by_cases : (m ≡ UNKNOWN_NAME) ⊎ (m ≢ UNKNOWN_NAME) → (n ≡ UNKNOWN_NAME) ⊎ (n ≢ UNKNOWN_NAME) → m ≡ n
     by_cases any (inr known) = first.only n (second.known known)
     by_cases (inr known) (inl none) = sym (second.only m (first.known known))
     by_cases (inl none) (inl none_too) = none ∙ sym none_too
-
--- and is asked for by one
-asked_same : (assoc : ℕ) (name : List ℕ) (m n : ℕ) → IsNumberAsked assoc name m → IsNumberAsked assoc name n → m ≡ n
-asked_same zero name m n first second = number_same name m n (first.system refl) (second.system refl)
-asked_same (suc k) name m n first second = first.other (omega arith) ∙ sym (second.other (omega arith))
 
 -- names have one list of numbers
 pub numbers_same : (assoc : ℕ) (items : List Item) (ms ns : List ℕ) → AreNumbersAsked assoc items ms → AreNumbersAsked assoc items ns → ms ≡ ns
@@ -88,7 +63,7 @@ numbers_same assoc [] (m ∷ ms) ns first second = absurd first
 numbers_same assoc (i ∷ items) [] ns first second = absurd first
 numbers_same assoc (i ∷ items) (m ∷ ms) [] first second = absurd second
 numbers_same assoc (i ∷ items) (m ∷ ms) (n ∷ ns) first second =
-    let head = asked_same assoc i.name m n first.0 second.0 in
+    let head = number_same assoc i.name m n first.0 second.0 in
     let tail = numbers_same assoc items ms ns first.1 second.1 in
     cc
 
@@ -108,10 +83,6 @@ pub AreNumbersAsked-whole : (assoc : ℕ) (items : List Item) (numbers : List �
 AreNumbersAsked-whole assoc items numbers i all are =
     subst (λ (front : List Item). AreNumbersAsked assoc front numbers) (take_all i items all) are
 
--- a body names no more items than a request has room for
-pub names_room : (f : FrameParts) (items : List Item) → FitsFrame f → IsItemText f.body items → length items ≤ MAX_NAMES
-names_room f items fits is = omega (arith, item_room f.body items is, fits.body)
-
 -- items that a reader answers
 abbrev as_read : List Item → Result (List Item) ItemFault
 as_read items = Ok items
@@ -125,24 +96,34 @@ unless_no_memory items others (inr wanting) = absurd cc
 pub only_variables : (f : FrameParts) (items : List Item) (numbers : List ℕ) → f.opcode ≡ OP_READ_VARIABLES → IsItemText f.body items
     → ((others : List Item) → IsItemText f.body others → items ≡ others) → AreNumbersAsked f.assoc items numbers
     → (what : What) → IsWhat f what → Vars numbers ≡ what
+only_variables f items numbers reads text one are Status status = absurd (omega (arith, reads, status))
 only_variables f items numbers reads text one are (Vars its) (_, (others, other_text, other_are)) =
     let same = one others other_text in
     ap Vars (numbers_same f.assoc items numbers its are (subst (λ (all : List Item). AreNumbersAsked f.assoc all its) (sym same) other_are))
 only_variables f items numbers reads text one are (Bad code) (inl (_, (place, refused), _)) = absurd (refused_nowhere IsItemText f.body items place text refused)
-only_variables f items numbers reads text one are (Bad code) (inr (other, _)) = absurd (other reads)
+only_variables f items numbers reads text one are (Bad code) (inr (_, other, _)) = absurd (other reads)
 
 -- a request whose body is none is refused so and not otherwise
 pub only_bad_format : (f : FrameParts) (place : ℕ) → f.opcode ≡ OP_READ_VARIABLES → IsRefusedAt IsItemText f.body place
     → (what : What) → IsWhat f what → Bad BAD_FORMAT ≡ what
+only_bad_format f place reads refused Status status = absurd (omega (arith, reads, status))
 only_bad_format f place reads refused (Vars its) (_, (items, text, _)) = absurd (refused_nowhere IsItemText f.body items place text refused)
 only_bad_format f place reads refused (Bad code) (inl (_, _, is)) = ap Bad (sym is)
-only_bad_format f place reads refused (Bad code) (inr (other, _)) = absurd (other reads)
+only_bad_format f place reads refused (Bad code) (inr (_, other, _)) = absurd (other reads)
 
 -- nor a request of another operation
-pub only_bad_operation : (f : FrameParts) → f.opcode ≢ OP_READ_VARIABLES → (what : What) → IsWhat f what → Bad BAD_OPERATION ≡ what
-only_bad_operation f other (Vars its) is = absurd (other is.0)
-only_bad_operation f other (Bad code) (inl is) = absurd (other is.0)
-only_bad_operation f other (Bad code) (inr (_, is)) = ap Bad (sym is)
+pub only_bad_operation : (f : FrameParts) → f.opcode ≢ OP_READ_STATUS → f.opcode ≢ OP_READ_VARIABLES → (what : What) → IsWhat f what → Bad BAD_OPERATION ≡ what
+only_bad_operation f other another Status status = absurd (other status)
+only_bad_operation f other another (Vars its) is = absurd (another is.0)
+only_bad_operation f other another (Bad code) (inl is) = absurd (another is.0)
+only_bad_operation f other another (Bad code) (inr (_, _, is)) = ap Bad (sym is)
+
+-- a request for a status asks for nothing else
+pub only_status : (f : FrameParts) → f.opcode ≡ OP_READ_STATUS → (what : What) → IsWhat f what → Status ≡ what
+only_status f reads Status is = refl
+only_status f reads (Vars its) is = absurd (omega (arith, reads, is.0))
+only_status f reads (Bad code) (inl is) = absurd (omega (arith, reads, is.0))
+only_status f reads (Bad code) (inr is) = absurd (is.0 reads)
 
 -- a head by its parts
 abbrev head_of_parts : (version opcode sequence status assoc : ℕ) → version ≤ 7 → opcode ≤ 31 → Head

@@ -1,18 +1,17 @@
 -- A datagram and its response.
-use Rattle.std.proofs.Common.{◌≡◌, ℕ, ◌+◌, ◌≤◌, Bool, true, false, cond, Option, Some, None, IsSome, IsSomeAnd, Result, Ok, Err, IfOk, OnOk, OnErr, List, [], ◌∷◌, length, refl, sym, ap, subst, ◌∙◌, inl, inr}
+use Rattle.std.proofs.Common.{◌≡◌, ℕ, ◌≤◌, Bool, true, false, cond, Option, Some, None, IsSome, IsSomeAnd, Result, Ok, Err, IfOk, OnOk, OnErr, List, length, refl, sym, ap, subst, ◌∙◌, inl, inr, arith}
 use Rattle.mac_keys.specs.declared.checking.Auth.{Auth}
 use Rattle.mac_keys.specs.declared.checking.Auth.TheVariants.{Absent, Good, Bad}
 use Rattle.mac_keys.specs.declared.keys.Key.{Key}
 use Rattle.mac_keys.specs.Tables.{key_of}
-use Rattle.mode6_frame.specs.declared.message.TheConstants.{HEAD_LEN, MAX_BODY}
 use Rattle.mode6_frame.proofs.FrameLemmas.{frame_at-frame, frame_fault_of-frame}
 use Rattle.net_addr.specs.declared.addr.Addr.{Addr}
 use Rattle.ntp_trailer.specs.declared.parts.Mac.{Mac}
 use Rattle.ntp_trailer.specs.declared.parts.Trailer.{Trailer as FieldsAndMac}
 use Rattle.ntp_trailer.specs.Authentic.{IsAuth, IsAuthenticMac}
-use Rattle.sys_vars.specs.Answers.{gram_of, is_refused}
+use Rattle.sys_vars.specs.Answers.{grams_of, is_refused}
+use Rattle.sys_vars.proofs.AnswerLemmas.{grams_of-some}
 use Rattle.sys_vars.specs.declared.answer.Answer.TheVariants.{Ignored as Unanswered, Given}
-use Rattle.sys_vars.specs.declared.asked.Asked.{Asked}
 use Rattle.sys_vars.specs.declared.context.Context.{Context}
 use Rattle.server_core.specs.declared.class.Ask.{Ask}
 use Rattle.server_core.specs.declared.class.Class.{Class}
@@ -74,12 +73,13 @@ IsGivable-verdict keys ask Limited has = tt
 IsGivable-verdict keys ask Rate has = tt
 IsGivable-verdict keys ask (Served basis) has = has
 
--- and so has an answer of one datagram
-IsGivable-answer : (keys : List Key) (refuses : Bool) (epoch : ℕ) (gram : List ℕ) (response : Response) → response ≡ response_with (cond refuses Unanswered (Given epoch (gram ∷ []))) → IsShortResponse response → IsGivable keys response
-IsGivable-answer keys true epoch gram response same short = subst (IsGivable keys) (sym same) tt
-IsGivable-answer keys false epoch gram response same short =
-    let one : IsShortResponse (Grams (gram ∷ [])) = subst IsShortResponse same short in
-    subst (IsGivable keys) (sym same) (gram, refl, one.0)
+-- and so has an answer with a datagram
+IsGivable-answer : (keys : List Key) (refuses : Bool) (epoch : ℕ) (grams : List (List ℕ)) (response : Response) → 1 ≤ length grams
+    → response ≡ response_with (cond refuses Unanswered (Given epoch grams)) → IsShortResponse response → IsGivable keys response
+IsGivable-answer keys true epoch grams response some same short = subst (IsGivable keys) (sym same) tt
+IsGivable-answer keys false epoch grams response some same short =
+    let each : IsShortResponse (Grams grams) = subst IsShortResponse same short in
+    subst (IsGivable keys) (sym same) (omega (arith, some), each)
 
 -- the response to a datagram can be given
 pub IsGivable-response : (s : ServerState) (context : Context) (octets : List ℕ) (from : Addr) (keys : List Key) (class : Class) (response : Response) → IsClass octets from keys context class → response ≡ response_of s context class → IsShortResponse response → IsGivable keys response
@@ -88,7 +88,7 @@ IsGivable-response s context octets from keys (TimeClass ask) response is same s
     let has : HasKey keys ask.auth = subst (HasKey keys) (sym is.is.auth_is) (HasKey-shown keys octets is.packet.trailer is.judged.auth is.packet.shown) in
     subst (IsGivable keys) (sym same) (IsGivable-verdict keys ask (arrival_verdict s.published s.limits s.rows s.stamp ask context.moment) has)
 IsGivable-response s context octets from keys (LookClass asked) response is same short =
-    IsGivable-answer keys (is_refused s.published asked) s.published.epoch (gram_of s.published asked) response same short
+    IsGivable-answer keys (is_refused s.published asked) s.published.epoch (grams_of s.published asked) response (grams_of-some s.published asked) same short
 
 -- two facts of what came out give a third
 pub IfOk-both : {A B : Type 0} (result : Result A B) (P Q R : A → Type 0) → IfOk result P → IfOk result Q → ((x : A) → P x → Q x → R x) → IfOk result R

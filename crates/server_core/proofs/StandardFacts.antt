@@ -8,7 +8,7 @@ use Rattle.net_addr.specs.declared.addr.Ip.TheVariants.{V4}
 use Rattle.discipline.specs.SoftClock.{clock_time}
 use Rattle.mode6_frame.specs.declared.message.FrameFault.TheVariants.{BadCount}
 use Rattle.mode6_frame.specs.Frames.{FrameParts}
-use Rattle.sys_vars.specs.declared.asked.What.TheVariants.{Bad as Refused}
+use Rattle.sys_vars.specs.declared.asked.What.TheVariants.{Bad as Refused, Status}
 use Rattle.sys_vars.specs.Opening.{opening_record}
 use Rattle.server_core.specs.declared.class.Ask.{Ask}
 use Rattle.server_core.specs.declared.class.Unheard.TheVariants.{Packet, Frame, Unserved}
@@ -78,7 +78,11 @@ is_request = refl
 
 -- no such operation is served
 reserved : IsWhat (request 10) (Refused 3)
-reserved = inr (λ e. omega (arith, e), refl)
+reserved = inr (λ e. omega (arith, e), λ e. omega (arith, e), refl)
+
+-- a request for a status is one, whatever its body
+status_asked : IsWhat (record (request 1) { body = 1 ∷ 2 ∷ [] }) Status
+status_asked = refl
 
 -- a reply to a bad MAC ends with a crypto-NAK
 bad_ends : (keys : List Key) (octets : List ℕ) → ended keys Bad octets ≡ octets ++ (0 ∷ 0 ∷ 0 ∷ 0 ∷ [])

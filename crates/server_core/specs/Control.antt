@@ -10,11 +10,11 @@ use Rattle.mode6_frame.specs.Items.{IsItemText}
 use Rattle.mode6_frame.specs.Refusals.{IsRefusedAt}
 use Rattle.sys_vars.specs.declared.asked.Asked.{Asked}
 use Rattle.sys_vars.specs.declared.asked.What.{What}
-use Rattle.sys_vars.specs.declared.asked.What.TheVariants.{Vars, Bad}
+use Rattle.sys_vars.specs.declared.asked.What.TheVariants.{Status, Vars, Bad}
 use Rattle.sys_vars.specs.declared.names.TheConstants.{UNKNOWN_NAME}
 use Rattle.sys_vars.specs.Names.{name_of}
 use Rattle.mode6_frame.specs.declared.errors.TheConstants.{BAD_FORMAT, BAD_OPERATION}
-use Rattle.mode6_frame.specs.declared.operations.TheConstants.{OP_READ_VARIABLES}
+use Rattle.mode6_frame.specs.declared.operations.TheConstants.{OP_READ_STATUS, OP_READ_VARIABLES}
 
 -- the number of a control message's fault, in the order of the tests
 abbrev pub frame_number : FrameFault → ℕ
@@ -36,15 +36,10 @@ pub record IsRequest (octets : List ℕ) (f : FrameParts) : Type 0 where
 abbrev pub IsReadRequest : List ℕ → Type 0
 IsReadRequest octets = (f : FrameParts) × IsRequest octets f × (f.opcode ≡ OP_READ_VARIABLES)
 
--- the number of the system variable of this name, or that of none
-pub record IsNumberOf (name : List ℕ) (number : ℕ) : Type 0 where
-  pub known : number ≢ UNKNOWN_NAME → name_of number ≡ Some name
-  pub only : (other : ℕ) → name_of other ≡ Some name → number ≡ other
-
--- the number by which a name is asked for: association 0 is the system; another has no names yet
+-- the number by which a name is asked for: that of the association's variable of this name, or that of none
 pub record IsNumberAsked (assoc : ℕ) (name : List ℕ) (number : ℕ) : Type 0 where
-  pub system : assoc ≡ 0 → IsNumberOf name number
-  pub other : assoc ≢ 0 → number ≡ UNKNOWN_NAME
+  pub known : number ≢ UNKNOWN_NAME → name_of assoc number ≡ Some name
+  pub only : (other : ℕ) → name_of assoc other ≡ Some name → number ≡ other
 
 -- the numbers by which the names of these items are asked for, in their order
 abbrev pub AreNumbersAsked : ℕ → List Item → List ℕ → Type 0
@@ -54,14 +49,16 @@ AreNumbersAsked assoc (item ∷ items) [] = ⊥
 AreNumbersAsked assoc (item ∷ items) (number ∷ numbers) =
     IsNumberAsked assoc item.name number × AreNumbersAsked assoc items numbers
 
--- what a request asks for: the variables that its body names, or what is refused with an error code
+-- what a request asks for: a status, whatever its body; the variables that its body names, whatever values stand
+-- there; or what is refused with an error code
 abbrev pub IsWhat : FrameParts → What → Type 0
+IsWhat f Status = f.opcode ≡ OP_READ_STATUS
 IsWhat f (Vars numbers) =
     (f.opcode ≡ OP_READ_VARIABLES)
     × ((items : List Item) × IsItemText f.body items × AreNumbersAsked f.assoc items numbers)
 IsWhat f (Bad code) =
     ((f.opcode ≡ OP_READ_VARIABLES) × ((place : ℕ) × IsRefusedAt IsItemText f.body place) × (code ≡ BAD_FORMAT))
-    ⊎ ((f.opcode ≢ OP_READ_VARIABLES) × (code ≡ BAD_OPERATION))
+    ⊎ ((f.opcode ≢ OP_READ_STATUS) × (f.opcode ≢ OP_READ_VARIABLES) × (code ≡ BAD_OPERATION))
 
 -- what an answer repeats of a request; the status is still to be filled in
 pub record IsHeadOf (f : FrameParts) (head : Head) : Type 0 where

@@ -1,5 +1,5 @@
 -- The response to a datagram: nothing, and why, or datagrams in their order. Our own rule, over RFC 5905 and RFC 9327.
-use Rattle.std.specs.Prelude.{◌≡◌, ◌⊎◌, ◌+◌, ◌≤◌, ℕ, Option, Some, None, List, [], ◌∷◌, length}
+use Rattle.std.specs.Prelude.{◌≡◌, ◌⊎◌, ◌+◌, ◌<◌, ◌≤◌, ℕ, Option, Some, None, List, [], ◌∷◌, length}
 use Rattle.std.specs.List.{AllByRecursion}
 use Rattle.mac_keys.specs.declared.keys.Key.{Key}
 use Rattle.mode6_frame.specs.declared.message.TheConstants.{HEAD_LEN, MAX_BODY}
@@ -91,8 +91,9 @@ abbrev pub IsShortResponse : Response → Type 0
 IsShortResponse (Grams grams) = AllByRecursion (λ gram. length gram ≤ HEAD_LEN + MAX_BODY) grams
 IsShortResponse _ = Unit {0}
 
--- a response can be given: the key of its MAC is there, and an answer is one datagram, no longer than a control message can be
+-- a response can be given: the key of its MAC is there; an answer has a datagram, and none that is longer than a control
+-- message can be
 abbrev pub IsGivable : List Key → Response → Type 0
 IsGivable keys (Time ask basis) = HasKey keys ask.auth
-IsGivable keys (Grams grams) = (gram : List ℕ) × (grams ≡ gram ∷ []) × (length gram ≤ HEAD_LEN + MAX_BODY)
+IsGivable keys (Grams grams) = (0 < length grams) × AllByRecursion (λ gram. length gram ≤ HEAD_LEN + MAX_BODY) grams
 IsGivable keys _ = Unit {0}

@@ -1,5 +1,5 @@
 -- What becomes of a request for the time: our own rule, by restrict flags and rate limits after NTPsec's.
-use Rattle.std.specs.Prelude.{ℕ, ◌+◌, ◌-◌, ◌*◌, ◌==◌, nat_le, max, Bool, true, false, not, ◌||◌, ◌&&◌, if◌then◌else◌, Option, Some, None, List}
+use Rattle.std.specs.Prelude.{ℕ, ◌+◌, ◌-◌, ◌*◌, ◌==◌, nat_le, max, Bool, true, not, ◌||◌, ◌&&◌, if◌then◌else◌, Option, Some, None, List}
 use Rattle.access_rules.specs.declared.flags.TheConstants.{IGNORE, NOSERVE, NOTRUST, VERSION, LIMITED, KOD}
 use Rattle.access_rules.specs.declared.rate.Rate.{Rate}
 use Rattle.access_rules.specs.Flags.{has_flag}

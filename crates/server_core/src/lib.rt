@@ -26,8 +26,6 @@ pub mod responding;
 pub mod response;
 pub mod step;
 mod stepping;
-#[cfg(test)]
-mod tests;
 pub mod verdict;
 
 pub use book::Book;

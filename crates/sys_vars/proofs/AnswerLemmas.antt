@@ -1,77 +1,37 @@
--- The datagram that gives variables, by why they are not given.
-use Rattle.std.proofs.Common.{◌≡◌, ℕ, ◌+◌, Bool, true, false, cond, List, [], ◌∷◌, length, Option, Some, None, Result, Ok, Err, refl, ◌∙◌, subst, arith}
-use Rattle.std.specs.Prelude.{◌==◌, not, nat_lt, ◌||◌, option_map, IsOkUnless, MatchOption}
-use Rattle.std.specs.List.{list_any, position_or_len}
-use Rattle.std.proofs.lemmas.Bool.Decides.{nat_tests}
-use Rattle.mode6_frame.specs.declared.errors.TheConstants.{BAD_ASSOCIATION, BAD_NAME}
-use Rattle.mode6_frame.specs.declared.items.Item.{Item}
+-- An answer that is given has a datagram.
+use Rattle.std.proofs.Common.{ℕ, ◌≤◌, List, length, Option, Some, None, arith}
 use Rattle.mode6_frame.specs.declared.message.Head.{Head}
-use Rattle.mode6_frame.specs.Told.{told_number}
+use Rattle.sys_vars.specs.declared.asked.Asked.{Asked}
+use Rattle.sys_vars.specs.declared.asked.What.{What}
+use Rattle.sys_vars.specs.declared.asked.What.TheVariants.{Status, Vars, Bad}
 use Rattle.sys_vars.specs.declared.published.Record.{Record}
-use Rattle.sys_vars.specs.declared.variables.VarsFault.{VarsFault}
-use Rattle.sys_vars.specs.declared.variables.VarsFault.TheVariants.{UnknownAssociation, UnknownName, NoMemory}
-use Rattle.sys_vars.specs.Answers.{error_octets, text_gram, vars_gram}
-use Rattle.sys_vars.specs.Variables.{is_unknown, variables_of, vars_fault_of}
+use Rattle.sys_vars.specs.declared.subject.Subject.{Subject}
+use Rattle.sys_vars.specs.Answers.{grams_about, grams_for, grams_of, grams_of_subject, head_about, variable_grams}
+use Rattle.sys_vars.specs.Variables.{first_unknown, subject_of, variables_of}
+use Rattle.sys_vars.proofs.CutLemmas.{datagrams-some}
 
--- some element passes where the first that passes stands within
-list_any-first : (p : ℕ → Bool) (xs : List ℕ) → list_any p xs ≡ nat_lt (position_or_len p xs) (length xs)
-list_any-first p [] = refl
-list_any-first p (x ∷ xs) =
-    let later = list_any-first p xs in
-    elim (p x) as (λ b. (b || list_any p xs) ≡ nat_lt (cond (not b) (1 + position_or_len p xs) 0) (length (x ∷ xs))) [
-      | true ↦ grind (arith, nat_tests)
-      | false ↦ later ∙ grind (arith, nat_tests)
-    ]
+-- of variables, whether a name is unknown or not
+variable_grams-some : (rec : Record) (subject : Subject) (head : Head) (names : List ℕ) (place : Option ℕ) → 1 ≤ length (variable_grams rec subject head names place)
+variable_grams-some rec subject head names None = datagrams-some head rec.epoch (variables_of rec subject names)
+variable_grams-some rec subject head names (Some place) = omega arith
 
--- where nothing is refused
-vars_fault_of-None : (known any : Bool) (n : ℕ) → cond (not known) (Some UnknownAssociation) (option_map (λ place. UnknownName (told_number place)) (cond any (Some n) None)) ≡ None
-    → (known ≡ true) × (any ≡ false)
-vars_fault_of-None true true n is = cc
-vars_fault_of-None true false n is = (refl, refl)
-vars_fault_of-None false any n is = cc
+-- of whatever is asked for of a system or a peer
+grams_about-some : (rec : Record) (subject : Subject) (head : Head) (what : What) → 1 ≤ length (grams_about rec subject head what)
+grams_about-some rec subject head Status = omega arith
+grams_about-some rec subject head (Vars names) = variable_grams-some rec subject head names (first_unknown subject names)
+grams_about-some rec subject head (Bad code) = omega arith
 
--- where the association is unknown
-vars_fault_of-association : (known any : Bool) (n : ℕ) → cond (not known) (Some UnknownAssociation) (option_map (λ place. UnknownName (told_number place)) (cond any (Some n) None)) ≡ Some UnknownAssociation
-    → known ≡ false
-vars_fault_of-association true true n is = cc
-vars_fault_of-association true false n is = cc
-vars_fault_of-association false any n is = refl
+-- whomever the association names
+grams_of_subject-some : (rec : Record) (head : Head) (what : What) (subject : Option Subject) → 1 ≤ length (grams_of_subject rec head what subject)
+grams_of_subject-some rec head what None = omega arith
+grams_of_subject-some rec head what (Some subject) = grams_about-some rec subject (head_about rec subject head) what
 
--- where a name is
-vars_fault_of-name : (known any : Bool) (n place : ℕ) → cond (not known) (Some UnknownAssociation) (option_map (λ place. UnknownName (told_number place)) (cond any (Some n) None)) ≡ Some (UnknownName place)
-    → (known ≡ true) × (any ≡ true)
-vars_fault_of-name true true n place is = (refl, refl)
-vars_fault_of-name true false n place is = cc
-vars_fault_of-name false any n place is = cc
+-- of whatever is asked for
+grams_for-some : (rec : Record) (head : Head) (what : What) → 1 ≤ length (grams_for rec head what)
+grams_for-some rec head Status = grams_of_subject-some rec head Status (subject_of rec head.assoc)
+grams_for-some rec head (Vars names) = grams_of_subject-some rec head (Vars names) (subject_of rec head.assoc)
+grams_for-some rec head (Bad code) = omega arith
 
-pub vars_gram-known : (rec : Record) (head : Head) (names : List ℕ) → vars_fault_of head.assoc names ≡ None
-    → vars_gram rec head names ≡ text_gram rec head (variables_of rec.system names)
-unfolding vars_gram
-vars_gram-known rec head names is =
-    let tests = vars_fault_of-None (head.assoc == 0) _ _ is in
-    rw (tests.0, list_any-first is_unknown names ∙ tests.1) refl
-
-pub vars_gram-association : (rec : Record) (head : Head) (names : List ℕ) → vars_fault_of head.assoc names ≡ Some UnknownAssociation
-    → vars_gram rec head names ≡ error_octets head BAD_ASSOCIATION
-unfolding vars_gram
-vars_gram-association rec head names is =
-    rw (vars_fault_of-association (head.assoc == 0) _ _ is) refl
-
-pub vars_gram-name : (rec : Record) (head : Head) (names : List ℕ) (place : ℕ) → vars_fault_of head.assoc names ≡ Some (UnknownName place)
-    → vars_gram rec head names ≡ error_octets head BAD_NAME
-unfolding vars_gram
-vars_gram-name rec head names place is =
-    let tests = vars_fault_of-name (head.assoc == 0) _ _ place is in
-    rw (tests.0, list_any-first is_unknown names ∙ tests.1) refl
-
--- what was given is not refused
-pub None-from_Ok : (o : Option VarsFault) (r : Result (List Item) VarsFault) (items : List Item) → r ≡ Ok items
-    → MatchOption o (IsOkUnless r NoMemory) (λ fault. r ≡ Err fault) → o ≡ None
-None-from_Ok None r items is refused = refl
-None-from_Ok (Some fault) r items is refused = cc
-
--- what is refused, but for want of memory, is refused for that cause
-pub Some-from_Err : (o : Option VarsFault) (r : Result (List Item) VarsFault) (fault : VarsFault) → r ≡ Err fault → ¬ (fault ≡ NoMemory)
-    → MatchOption o (IsOkUnless r NoMemory) (λ due. r ≡ Err due) → o ≡ Some fault
-Some-from_Err None r fault is has_memory refused = absurd (has_memory (subst (λ x. IsOkUnless x NoMemory) is refused))
-Some-from_Err (Some due) r fault is has_memory refused = cc
+-- the answer to a request has one at least
+pub grams_of-some : (rec : Record) (asked : Asked) → 1 ≤ length (grams_of rec asked)
+grams_of-some rec asked = grams_for-some rec asked.head asked.what

@@ -1,9 +1,10 @@
 -- The text of one item more.
-use Rattle.std.proofs.Common.{◌≡◌, ℕ, ◌+◌, ◌<◌, false, List, [], ◌∷◌, ◌++◌, length, get_or, take, refl, sym, ap, ◌∙◌, append_assoc, arith}
-use Rattle.std.specs.Prelude.{◌==◌, if◌then◌else◌}
+use Rattle.std.proofs.Common.{◌≡◌, ℕ, ◌+◌, ◌<◌, false, List, [], ◌∷◌, ◌++◌, length, get_or, take, Some, refl, sym, ap, ◌∙◌, append_assoc, arith}
+use Rattle.std.specs.Prelude.{◌==◌, if◌then◌else◌, slice_get}
 use Rattle.std.proofs.lemmas.List.{take_more, append-nil, length-take-le}
 use Rattle.std.proofs.lemmas.Bool.Decides.{nat_tests}
 use Rattle.std.proofs.lemmas.List.Concat.{flat_map-append}
+use Rattle.std.proofs.lemmas.Option.{get_or_from_slice_get}
 use Rattle.std.specs.List.{flat_map, join_by}
 
 -- what stands before a piece that so many others precede
@@ -39,3 +40,15 @@ join_by-step f sep xs i x text more before so_far within is sep_is pushed =
     ∙ ap (λ gap. (join_by f sep (take i xs) ++ gap) ++ f (get_or xs i x)) (sep_is ∙ ap (between sep) (sym count))
     ∙ sym (join_by-push f sep (take i xs) (get_or xs i x))
     ∙ sym (ap (join_by f sep) (take_more xs i x within))
+
+-- the step of a loop that joins what each element gives, with nothing between
+pub flat_map-step : {X : Type 0} (f : X → List ℕ) (xs : List X) (i : ℕ) (x : X) (octets more : List ℕ)
+    → octets ≡ flat_map f (take i xs) → i < length xs → slice_get xs i ≡ Some x → more ≡ octets ++ f x → more ≡ flat_map f (take (i + 1) xs)
+flat_map-step f xs i x octets more so_far within is pushed =
+    let here : get_or xs i x ≡ x = get_or_from_slice_get xs i x x is in
+    pushed
+    ∙ ap (λ front. front ++ f x) so_far
+    ∙ ap (λ last. flat_map f (take i xs) ++ last) (sym (append-nil (f x)))
+    ∙ sym (flat_map-append f (take i xs) (x ∷ []))
+    ∙ ap (λ y. flat_map f (take i xs ++ y ∷ [])) (sym here)
+    ∙ sym (ap (flat_map f) (take_more xs i x within))

@@ -1,27 +1,31 @@
-ghost use Rattle.std.specs.Prelude.{◌≡◌, ◌≤◌, ◌+◌, ◌++◌, ◌==◌, if◌then◌else◌, [], IfOk, OnOk, length, codes};
-ghost use Rattle.mode6_frame.specs.Frames.{spelled_frame};
-ghost use Rattle.sys_vars.specs.Answers.{IsWithin, answer_of, is_refused, gram_of, vars_gram, text_gram, response_parts, item_text, plain_text};
+ghost use Rattle.std.specs.Prelude.{◌≡◌, ◌≤◌, ◌+◌, ◌*◌, ◌++◌, ◌∷◌, [], IfOk, OnOk, length, flat_map};
+ghost use Rattle.std.specs.List.{AllByRecursion};
+ghost use Rattle.sys_vars.specs.Answers.{IsWithin, answer_of, error_octets, grams_about, grams_for, grams_of_subject, head_about, is_refused, status_body, status_of, status_pair, variable_grams};
+ghost use Rattle.sys_vars.specs.Variables.{first_unknown, subject_of};
 
 use crate::answer::Answer;
-use crate::asked::{Asked, What};
+use crate::asked::{Asked, NameNumbers, What};
 use crate::context::Context;
+use crate::peer_view::PeerView;
+use crate::peer_views::{MAX_PEERS, PeerViews};
 use crate::published::Record;
-use crate::status::system_status;
-use crate::variables::{VarsFault, items};
+use crate::status::{peer_status, system_status};
+use crate::subject::{Subject, subject_of};
+use crate::variables::{first_unknown, variables};
 use access_rules::{IGNORE, NOQUERY, flags_for, has_flag};
 use edge_traits::{Grams, Octets};
 use mode6_frame::{
-    BAD_ASSOCIATION, BAD_FORMAT, BAD_NAME, Frame, HEAD_LEN, Head, Item, Items, MAX_BODY,
-    error_gram, write,
+    BAD_ASSOCIATION, BAD_NAME, HEAD_LEN, Head, MAX_BODY, cut, error_gram, whole_gram,
 };
 use std::alloc::{AllocError, Global};
 
 /// The answer to a control request, made of one record (RFC 9327, sections 2 and 4).
 ///
-/// The variables that are asked for stand in one datagram, as `stratum=16, refid=INIT`, a carriage
-/// return and a line feed. Our own rule: a text of more than 468 octets is refused as a bad format.
-/// A sender whose restrict flags have `ignore` or `noquery` gets no answer. These requests need
-/// nothing of the context.
+/// The status of the system is answered with the association number and status word of each peer,
+/// 16 bits each, that of a peer with no body. Variables stand in as many datagrams as they need,
+/// each of which then begins with the record's epoch as a tag. The status in the head is that of
+/// whom the association names, unless the answer is an error. A sender whose restrict flags have
+/// `ignore` or `noquery` gets no answer. These requests need nothing of the context.
 pub fn answer(
     alloc: Global,
     rec: &Record,
@@ -34,12 +38,9 @@ pub fn answer(
     if is_refused(rec, asked) {
         return Ok(Answer::Ignored);
     }
-    let gram = gram(alloc, rec, asked)?;
-    let mut grams = Vec::new(alloc);
-    grams.push(gram)?;
     Ok(Answer::Given {
         epoch: rec.epoch,
-        grams: Grams::of(grams),
+        grams: grams(alloc, rec, &asked.head, &asked.what)?,
     })
 }
 
@@ -51,261 +52,154 @@ fn is_refused(rec: &Record, asked: &Asked) -> bool
     has_flag(flags, IGNORE) || has_flag(flags, NOQUERY)
 }
 
-/// The datagram that answers a request.
-fn gram(alloc: Global, rec: &Record, asked: &Asked) -> Result<Octets, AllocError>
-    ensures value { IfOk result (λ gram. gram ≡ gram_of rec.now asked.now) }
-    ensures short { IfOk result (λ gram. length gram ≤ HEAD_LEN + MAX_BODY) }
+/// The datagrams that answer what is asked for.
+fn grams(alloc: Global, rec: &Record, head: &Head, what: &What) -> Result<Grams, AllocError>
+    ensures value { IfOk result (λ grams. grams ≡ grams_for rec.now head.now what.now) }
+    ensures short { IfOk result (AllByRecursion (λ gram. length gram ≤ HEAD_LEN + MAX_BODY)) }
 {
-    match &asked.what {
-        What::Bad(code) => Ok(error_gram(&asked.head, *code)),
-        What::Vars(names) => vars_gram(alloc, rec, &asked.head, names.as_slice()),
+    match what {
+        What::Bad(code) => one(alloc, error_gram(head, *code)),
+        What::Status | What::Vars(_) => grams_of_subject(alloc, rec, head, what),
     }
 }
 
-/// The datagram that gives the variables of these numbers, or says why it does not.
-fn vars_gram(alloc: Global, rec: &Record, head: &Head, names: &[u8]) -> Result<Octets, AllocError>
-    ensures value { IfOk result (λ gram. gram ≡ vars_gram rec.now head.now names.now) }
-    ensures short { IfOk result (λ gram. length gram ≤ HEAD_LEN + MAX_BODY) }
+/// The datagrams that tell what is asked for of whom the association names.
+fn grams_of_subject(
+    alloc: Global,
+    rec: &Record,
+    head: &Head,
+    what: &What,
+) -> Result<Grams, AllocError>
+    ensures value { IfOk result (λ grams. grams
+        ≡ grams_of_subject rec.now head.now what.now (subject_of rec.now head.now.assoc)) }
+    ensures short { IfOk result (AllByRecursion (λ gram. length gram ≤ HEAD_LEN + MAX_BODY)) }
 {
-    match items(alloc, rec, head.assoc, names) {
-        Ok(items) => text_gram(alloc, rec, head, &items),
-        Err(VarsFault::UnknownAssociation) => Ok(error_gram(head, BAD_ASSOCIATION)),
-        Err(VarsFault::UnknownName { .. }) => Ok(error_gram(head, BAD_NAME)),
-        Err(VarsFault::NoMemory) => Err(AllocError),
+    match subject_of(rec, head.assoc) {
+        Some(subject) => grams_about(alloc, rec, &subject, &head_about(rec, &subject, head), what),
+        None => one(alloc, error_gram(head, BAD_ASSOCIATION)),
     }
 }
 
-/// The datagram that gives these items, where their text fits.
-#[tactic(auto, unfolding(crate::specs::Answers::text_gram))]
-fn text_gram(alloc: Global, rec: &Record, head: &Head, items: &Items) -> Result<Octets, AllocError>
-    ensures value { IfOk result (λ gram. gram ≡ text_gram rec.now head.now items.now) }
-    ensures short { IfOk result (λ gram. length gram ≤ HEAD_LEN + MAX_BODY) }
+/// The datagrams that tell what is asked for of the system or of a peer.
+fn grams_about(
+    alloc: Global,
+    rec: &Record,
+    subject: &Subject,
+    head: &Head,
+    what: &What,
+) -> Result<Grams, AllocError>
+    ensures value { IfOk result (λ grams. grams
+        ≡ grams_about rec.now subject.now head.now what.now) }
+    ensures short { IfOk result (AllByRecursion (λ gram. length gram ≤ HEAD_LEN + MAX_BODY)) }
 {
-    let text = plain_text(alloc, items)?;
-    if text.len() > MAX_BODY {
-        Ok(error_gram(head, BAD_FORMAT))
-    } else {
-        Ok(response(head, system_status(&rec.system), text.as_slice()))
+    match what {
+        What::Status => status_grams(alloc, rec, subject, head),
+        What::Vars(names) => variable_grams(alloc, rec, subject, head, names),
+        What::Bad(code) => one(alloc, error_gram(head, *code)),
     }
 }
 
-/// The response whose body is this text, whole in one datagram.
-fn response(head: &Head, status: u16, text: &[u8]) -> Octets
-    requires { length text.now ≤ MAX_BODY }
-    ensures value { result ≡ spelled_frame (response_parts head.now status text.now) }
-    ensures short { length result ≤ HEAD_LEN + MAX_BODY }
+/// What an answer about the system or a peer repeats of its request, and the status of that
+/// subject.
+fn head_about(rec: &Record, subject: &Subject, head: &Head) -> Head
+    ensures { result ≡ head_about rec.now subject.now head.now }
 {
-    write(&Frame {
-        leap: 0,
+    Head {
         version: head.version,
-        response: true,
-        error: false,
-        more: false,
         opcode: head.opcode,
         sequence: head.sequence,
-        status,
+        status: status_of(rec, subject),
         assoc: head.assoc,
-        offset: 0,
-        body: text,
-        rest: &[],
-    })
+    }
 }
 
-/// The text of items, as one datagram holds it.
-fn plain_text(alloc: Global, items: &Items) -> Result<Vec<u8>, AllocError>
-    ensures { IfOk result (λ text. text.items ≡ plain_text items.now) }
+/// The status word of the system or of a peer.
+fn status_of(rec: &Record, subject: &Subject) -> u16
+    ensures { result ≡ status_of rec.now subject.now }
 {
-    let mut text = Vec::new(alloc);
-    for place in 0..items.len() {
-        put_item(&mut text, separator(place), items.get(place))?;
+    match subject {
+        Subject::System => system_status(&rec.system),
+        Subject::Peer(peer) => peer_status(peer),
     }
-    text.extend_from_slice(b"\r\n")?;
-    Ok(text)
 }
 
-/// What stands in front of the item at a place.
-fn separator(place: usize) -> &'static [u8]
-    ensures { result.now ≡ (if place == 0 then [] else codes ", ") }
+/// The datagram that tells the status of the system or of a peer.
+fn status_grams(
+    alloc: Global,
+    rec: &Record,
+    subject: &Subject,
+    head: &Head,
+) -> Result<Grams, AllocError>
+    ensures value { IfOk result (λ grams. grams
+        ≡ grams_about rec.now subject.now head.now What.Status) }
+    ensures short { IfOk result (AllByRecursion (λ gram. length gram ≤ HEAD_LEN + MAX_BODY)) }
 {
-    if place == 0 { b"" } else { b", " }
+    let body = status_body(rec, subject);
+    one(alloc, whole_gram(head, body.as_slice()))
 }
 
-/// Appends an item, and before it what separates it from the last.
-fn put_item(text: &mut Vec<u8>, before: &[u8], item: &Item) -> Result<(), AllocError>
-    ensures { OnOk result
-        (text.new.items ≡ text.old.items ++ before.now ++ item_text item.now) }
+/// The body that tells the status of the system or of a peer.
+fn status_body(rec: &Record, subject: &Subject) -> Octets
+    ensures value { result ≡ status_body rec.now subject.now }
+    ensures short { length result ≤ 4 * MAX_PEERS }
 {
-    text.extend_from_slice(before)?;
-    text.extend_from_slice(item.name.as_slice())?;
-    if let Some(value) = &item.value {
-        text.push(b'=')?;
-        text.extend_from_slice(value.as_slice())?;
+    match subject {
+        Subject::System => pairs(&rec.peers),
+        Subject::Peer(_) => Octets::new(),
     }
-    Ok(())
 }
 
-#[cfg(test)]
-mod tests {
-    use super::*;
-    use crate::asked::{MAX_NAMES, NameNumbers};
-    use crate::names::{LEAP, STRATUM};
-    use edge_traits::Salt;
-    use fixed_time::Ntp64;
-    use net_addr::{Addr, Ip};
-    use std::process::Abort;
-    use std::test::Fail;
-
-    const CONTEXT: Context = Context {
-        salt: Salt([0; 16]),
-        origin: Ntp64(0),
-        moment: 0,
-    };
-
-    fn variables(alloc: Global, names: &[u8]) -> Result<What, AllocError>
-        requires { length names.now ≤ MAX_NAMES }
-    {
-        Ok(What::Vars(NameNumbers::of(Vec::from_slice(alloc, names)?)))
+/// The association number and the status word of each peer.
+fn pairs(peers: &PeerViews) -> Octets
+    ensures value { result ≡ flat_map status_pair peers.now }
+    ensures short { length result ≤ 4 * MAX_PEERS }
+{
+    let mut octets = Octets::new();
+    for place in 0..peers.len() {
+        put_pair(&mut octets, peers.get(place));
     }
+    octets
+}
 
-    /// The one datagram that answers.
-    fn reply(
-        rt: &impl Abort,
-        alloc: Global,
-        rec: &Record,
-        opcode: u8,
-        assoc: u16,
-        what: What,
-    ) -> Result<Octets, AllocError> {
-        assert!(rt; opcode <= 31);
-        let asked = Asked {
-            from: Addr {
-                ip: Ip::V4([192, 0, 2, 1]),
-                port: 123,
-            },
-            head: Head {
-                version: 2,
-                opcode,
-                sequence: 1,
-                status: 0,
-                assoc,
-            },
-            what,
-        };
-        let Answer::Given { epoch, grams } = answer(alloc, rec, &asked, &CONTEXT)? else {
-            assert!(rt; false, "there is no answer");
-            return Ok(Octets::new());
-        };
-        assert_eq!(rt; epoch, rec.epoch);
-        assert_eq!(rt; grams.len(), 1);
-        Ok(grams.get(0).copy())
-    }
+/// Appends the association number and the status word of a peer.
+fn put_pair(octets: &mut Octets, peer: &PeerView)
+    requires { length octets.old + 4 ≤ 2048 }
+    ensures value { octets.new ≡ octets.old ++ status_pair peer.now }
+    ensures longer { length octets.new ≡ length octets.old + 4 }
+{
+    octets.put(&peer.assoc.to_be_bytes());
+    octets.put(&peer_status(peer).to_be_bytes());
+}
 
-    #[test]
-    fn variables_are_given_or_refused(rt: HostRuntime) -> Result<(), Fail> {
-        let opening = Record::opening(rt.alloc(), Ntp64(0))?;
-        let cases = [
-            (
-                0,
-                b"\x02".as_slice(),
-                b"\x16\x82\x00\x01\xc0\x11\x00\x00\x00\x00\x00\x0cstratum=16\r\n".as_slice(),
-            ),
-            (
-                0,
-                b"\x06\x01".as_slice(),
-                b"\x16\x82\x00\x01\xc0\x11\x00\x00\x00\x00\x00\x14refid=INIT, leap=3\r\n".as_slice(),
-            ),
-            (
-                0,
-                b"".as_slice(),
-                b"\x16\x82\x00\x01\xc0\x11\x00\x00\x00\x00\x00\x20leap=3, stratum=16, refid=INIT\r\n".as_slice(),
-            ),
-            (
-                0,
-                b"\xff".as_slice(),
-                b"\x16\xc2\x00\x01\x05\x00\x00\x00\x00\x00\x00\x00".as_slice(),
-            ),
-            (
-                9,
-                b"\x02".as_slice(),
-                b"\x16\xc2\x00\x01\x04\x00\x00\x09\x00\x00\x00\x00".as_slice(),
-            ),
-        ];
-        for (assoc, names, wanted) in cases {
-            assert!(rt; names.len() <= MAX_NAMES);
-            let octets = reply(
-                &rt,
-                rt.alloc(),
-                &opening,
-                2,
-                assoc,
-                variables(rt.alloc(), names)?,
-            )?;
-            assert!(rt; octets.as_slice() == wanted, "{names:?}");
+/// The datagrams that give the variables of these numbers, or tell that a name is unknown.
+fn variable_grams(
+    alloc: Global,
+    rec: &Record,
+    subject: &Subject,
+    head: &Head,
+    names: &NameNumbers,
+) -> Result<Grams, AllocError>
+    ensures value { IfOk result (λ grams. grams
+        ≡ variable_grams rec.now subject.now head.now names.now
+        (first_unknown subject.now names.now)) }
+    ensures short { IfOk result (AllByRecursion (λ gram. length gram ≤ HEAD_LEN + MAX_BODY)) }
+{
+    match first_unknown(subject, names.as_slice()) {
+        Some(_) => one(alloc, error_gram(head, BAD_NAME)),
+        None => {
+            let items = variables(alloc, rec, subject, names.as_slice())?;
+            cut(alloc, &items, rec.epoch, head)
         }
-        Ok(())
     }
+}
 
-    #[test]
-    fn a_bad_request_gets_its_error(rt: HostRuntime) -> Result<(), Fail> {
-        let opening = Record::opening(rt.alloc(), Ntp64(0))?;
-        let octets = reply(&rt, rt.alloc(), &opening, 3, 0, What::Bad(3))?;
-        let wanted = b"\x16\xc3\x00\x01\x03\x00\x00\x00\x00\x00\x00\x00".as_slice();
-        assert!(rt; octets.as_slice() == wanted);
-        Ok(())
-    }
-    // `leap=3` has 6 octets, `stratum=1` has 9, and with what joins them 53 and 4 of them have
-    // 53 * 8 + 4 * 11 = 468; 49 and 7 have 469, and 40 times `stratum=16` has 480.
-    #[test]
-    fn a_text_of_468_octets_is_the_longest(rt: HostRuntime) -> Result<(), Fail> {
-        let opening = Record::opening(rt.alloc(), Ntp64(0))?;
-        let mut primary = Record::opening(rt.alloc(), Ntp64(0))?;
-        primary.system.stratum = 1;
-        let cases = [
-            (
-                &primary,
-                53,
-                4,
-                b"\x82\x00\x01\xc0\x11\x00\x00\x00\x00\x01\xd4".as_slice(),
-                480,
-            ),
-            (
-                &primary,
-                49,
-                7,
-                b"\xc2\x00\x01\x02\x00\x00\x00\x00\x00\x00\x00".as_slice(),
-                12,
-            ),
-            (
-                &opening,
-                0,
-                39,
-                b"\x82\x00\x01\xc0\x11\x00\x00\x00\x00\x01\xd4".as_slice(),
-                480,
-            ),
-            (
-                &opening,
-                0,
-                40,
-                b"\xc2\x00\x01\x02\x00\x00\x00\x00\x00\x00\x00".as_slice(),
-                12,
-            ),
-        ];
-        for (record, leaps, strata, head, len) in cases {
-            let mut names = vec![in rt.alloc(); LEAP; leaps]?;
-            names.extend_from_slice(vec![in rt.alloc(); STRATUM; strata]?.as_slice())?;
-            assert!(rt; names.len() <= MAX_NAMES);
-            let octets = reply(
-                &rt,
-                rt.alloc(),
-                record,
-                2,
-                0,
-                What::Vars(NameNumbers::of(names)),
-            )?;
-            assert_eq!(rt; octets.len(), len);
-            assert!(rt; len >= 12);
-            assert!(rt; &octets.as_slice()[1..12] == head, "{leaps} {strata}");
-        }
-        Ok(())
-    }
+/// The answer of one datagram.
+fn one(alloc: Global, gram: Octets) -> Result<Grams, AllocError>
+    requires { length gram ≤ HEAD_LEN + MAX_BODY }
+    ensures value { IfOk result (λ grams. grams ≡ gram ∷ []) }
+    ensures short { IfOk result (AllByRecursion (λ gram. length gram ≤ HEAD_LEN + MAX_BODY)) }
+{
+    let mut grams = Vec::new(alloc);
+    grams.push(gram)?;
+    Ok(Grams::of(grams))
 }

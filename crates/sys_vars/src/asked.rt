@@ -54,6 +54,8 @@ impl NameNumbers {
 /// What a control message asks for, besides the time.
 #[derive(Drop)]
 pub enum What {
+    /// The status of the system and of each peer, or of one peer.
+    Status,
     /// These variables, or all where none is named.
     Vars(NameNumbers),
     /// What is refused with this error code (RFC 9327, section 3.4).

@@ -1,9 +1,10 @@
 //! What a server publishes of itself: the system's values, those of its peers and its clock, as one
-//! record; and its answers to control requests for system variables (RFC 9327).
+//! record; and its answers to control requests for status and variables (RFC 9327).
 //!
 //! Layer 4. Stands on: `access_rules`, `clock_filter`, `discipline`, `mode6_frame`, `ntp_packet`, `edge_traits`, `net_addr`, `fixed_time`.
 //! Promises: a server opens with one record, given by its values; an answer is a function of one
-//! record and the request, and comes unless memory is wanting.
+//! record and the request, and comes unless memory is wanting; the text of each variable is given by
+//! its value.
 #![tactic(auto)]
 
 pub mod answer;
@@ -11,12 +12,17 @@ pub mod answering;
 pub mod asked;
 pub mod context;
 pub mod names;
+mod number_text;
+mod peer_variables;
 pub mod peer_view;
 pub mod peer_views;
 pub mod published;
 mod refid_text;
+pub mod sample_text;
 pub mod status;
+pub mod subject;
 pub mod system;
+mod system_variables;
 pub mod variables;
 
 pub use answer::Answer;

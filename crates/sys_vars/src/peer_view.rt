@@ -1,12 +1,8 @@
 ghost use Rattle.std.specs.Prelude.{◌≤◌};
 
 use clock_filter::{STAGES, Sample};
-#[cfg(test)]
-use fixed_time::MAX_DISPERSION;
 use fixed_time::{Ntp64, Span};
 use net_addr::Addr;
-#[cfg(test)]
-use net_addr::Ip;
 
 /// What is published of a peer, a server that is asked for the time: what its last accepted reply
 /// told, and what was measured (RFC 5905, sections 9.1 and 10). Times without another unit are in
@@ -65,38 +61,4 @@ pub struct PeerView {
     pub ghost selection_in: { selection ≤ 7 },
     pub ghost events_in: { events ≤ 15 },
     pub ghost code_in: { code ≤ 15 },
-}
-
-/// A peer without a key that was never heard of, and has had no event.
-#[cfg(test)]
-pub(crate) fn unheard() -> PeerView {
-    PeerView {
-        assoc: 1,
-        addr: Addr {
-            ip: Ip::V4([192, 0, 2, 1]),
-            port: 123,
-        },
-        key: 0,
-        hpoll: 6,
-        ppoll: 0,
-        pmode: 0,
-        leap: 3,
-        stratum: 16,
-        precision: 0,
-        root_delay: 0,
-        root_disp: 0,
-        refid: *b"INIT",
-        reference: Ntp64(0),
-        received: Ntp64(0),
-        reach: 0,
-        offset: Span(0),
-        delay: 0,
-        disp: MAX_DISPERSION,
-        jitter: 0,
-        stages: [None; STAGES],
-        auth_ok: false,
-        selection: 0,
-        events: 0,
-        code: 0,
-    }
 }

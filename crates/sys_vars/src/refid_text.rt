@@ -1,9 +1,10 @@
-ghost use Rattle.std.specs.Prelude.{◌≡◌, ◌++◌, ◌==◌, IfOk, OnOk, codes, decimal, position};
+ghost use Rattle.std.specs.Prelude.{◌≡◌, ◌≤◌, ◌+◌, ◌++◌, ◌==◌, IfOk, OnOk, IsTrue, codes, decimal, length, position};
 ghost use Rattle.std.specs.List.{list_all};
 ghost use Rattle.std.specs.Char.{is_ascii_alphanumeric};
 ghost use Rattle.std.specs.Net.Text.{ipv4_text};
 ghost use Rattle.hex.specs.Hex.{encode_lower};
-ghost use Rattle.sys_vars.specs.Variables.{before_zero, is_code, refid_text};
+ghost use Rattle.sys_vars.specs.Variables.{IsPlainValue};
+ghost use Rattle.sys_vars.specs.Texts.{before_zero, is_code, refid_text};
 
 use itoa::Buffer;
 use mode6_frame::Text;
@@ -14,9 +15,11 @@ use std::alloc::{AllocError, Global};
 ///
 /// From stratum 2 to 15 it is the address of the source, in dotted decimal. Else it is a code of
 /// letters and digits, as `GPS`; what is no code is shown in hexadecimal digits, as `0x00000000`.
-#[tactic(auto, unfolding(crate::specs::Variables::refid_text))]
+#[tactic(auto, unfolding(crate::specs::Texts::refid_text))]
 pub fn refid_text(alloc: Global, stratum: u8, refid: &[u8; 4]) -> Result<Text, AllocError>
-    ensures { IfOk result (λ text. text ≡ refid_text stratum refid.now) }
+    ensures value { IfOk result (λ text. text ≡ refid_text stratum refid.now) }
+    ensures short { IfOk result (λ text. length text ≤ 20) }
+    ensures plain { IfOk result IsPlainValue }
 {
     if (2..=MAX_SYNCHRONIZED_STRATUM).contains(&stratum) {
         dotted(alloc, refid)
@@ -29,7 +32,9 @@ pub fn refid_text(alloc: Global, stratum: u8, refid: &[u8; 4]) -> Result<Text, A
 
 /// An IPv4 address in dotted decimal.
 fn dotted(alloc: Global, octets: &[u8; 4]) -> Result<Text, AllocError>
-    ensures { IfOk result (λ text. text ≡ ipv4_text octets.now) }
+    ensures value { IfOk result (λ text. text ≡ ipv4_text octets.now) }
+    ensures short { IfOk result (λ text. length text ≤ 15) }
+    ensures plain { IfOk result IsPlainValue }
 {
     let mut text = Vec::new(alloc);
     put_decimal(&mut text, octets[0])?;
@@ -41,7 +46,8 @@ fn dotted(alloc: Global, octets: &[u8; 4]) -> Result<Text, AllocError>
 
 /// Appends an octet in decimal digits.
 fn put_decimal(text: &mut Vec<u8>, octet: u8) -> Result<(), AllocError>
-    ensures { OnOk result (text.new.items ≡ text.old.items ++ decimal octet) }
+    ensures value { OnOk result (text.new.items ≡ text.old.items ++ decimal octet) }
+    ensures longer { OnOk result (length text.new.items ≤ length text.old.items + 3) }
 {
     let mut digits = Buffer::new();
     text.extend_from_slice(digits.format(octet).as_bytes())
@@ -49,7 +55,8 @@ fn put_decimal(text: &mut Vec<u8>, octet: u8) -> Result<(), AllocError>
 
 /// Appends a point, and an octet in decimal digits.
 fn put_after_point(text: &mut Vec<u8>, octet: u8) -> Result<(), AllocError>
-    ensures { OnOk result (text.new.items ≡ text.old.items ++ codes "." ++ decimal octet) }
+    ensures value { OnOk result (text.new.items ≡ text.old.items ++ codes "." ++ decimal octet) }
+    ensures longer { OnOk result (length text.new.items ≤ length text.old.items + 4) }
 {
     text.push(b'.')?;
     put_decimal(text, octet)
@@ -72,7 +79,8 @@ fn is_alphanumeric(octets: &[u8]) -> bool
 
 /// What stands before the first zero octet.
 fn before_zero(octets: &[u8]) -> &[u8]
-    ensures { result.now ≡ before_zero octets.now }
+    ensures value { result.now ≡ before_zero octets.now }
+    ensures short { length result.now ≤ length octets.now }
 {
     match first_zero(octets) {
         Some(len) => &octets[..len],
@@ -89,41 +97,21 @@ fn first_zero(octets: &[u8]) -> Option<usize>
 
 /// A code, as it stands.
 fn code(alloc: Global, octets: &[u8; 4]) -> Result<Text, AllocError>
-    ensures { IfOk result (λ text. text ≡ before_zero octets.now) }
+    requires { IsTrue (is_code octets.now) }
+    ensures value { IfOk result (λ text. text ≡ before_zero octets.now) }
+    ensures short { IfOk result (λ text. length text ≤ 4) }
+    ensures plain { IfOk result IsPlainValue }
 {
     Ok(Text::of(Vec::from_slice(alloc, before_zero(octets))?))
 }
 
 /// All four octets in hexadecimal digits.
 fn hexadecimal(alloc: Global, octets: &[u8; 4]) -> Result<Text, AllocError>
-    ensures { IfOk result (λ text. text ≡ codes "0x" ++ encode_lower octets.now) }
+    ensures value { IfOk result (λ text. text ≡ codes "0x" ++ encode_lower octets.now) }
+    ensures short { IfOk result (λ text. length text ≤ 10) }
+    ensures plain { IfOk result IsPlainValue }
 {
     let mut text = Vec::from_slice(alloc, b"0x")?;
     text.extend_from_slice(hex::encode(alloc, octets.as_slice())?.as_bytes())?;
     Ok(Text::of(text))
-}
-
-#[cfg(test)]
-mod tests {
-    use super::*;
-    use std::test::Fail;
-
-    #[test]
-    fn addresses_codes_and_other_octets_are_shown(rt: HostRuntime) -> Result<(), Fail> {
-        let cases = [
-            (1, *b"GPS\0", b"GPS".as_slice()),
-            (1, *b"\x7f\0\0\x01", b"0x7f000001".as_slice()),
-            (2, *b"\x7f\0\0\x01", b"127.0.0.1".as_slice()),
-            (15, *b"INIT", b"73.78.73.84".as_slice()),
-            (16, *b"INIT", b"INIT".as_slice()),
-            (16, *b"\0\0\0\0", b"0x00000000".as_slice()),
-            (16, *b"ab!\0", b"0x61622100".as_slice()),
-            (0, *b"A\0\xff\xff", b"A".as_slice()),
-        ];
-        for (stratum, refid, wanted) in cases {
-            let text = refid_text(rt.alloc(), stratum, &refid)?;
-            assert!(rt; text.as_slice() == wanted, "{stratum} {refid:?}");
-        }
-        Ok(())
-    }
 }

@@ -1,13 +1,19 @@
-ghost use Rattle.std.specs.Prelude.{◌≡◌, ◌++◌, IfOk, OnOk, IsOkUnless, MatchOption, decimal, position, filter_map, Some};
-ghost use Rattle.std.specs.Option.{option_to_list};
+ghost use Rattle.std.specs.Prelude.{◌≡◌, ◌⊎◌, ◌≤◌, ◌<◌, ◌+◌, ◌++◌, [], IfOk, IfErr, IfSome, OnOk, Ok, Err, Some, filter_map, length, slice_get, slice_index_or};
+ghost use Rattle.std.specs.Option.{option_copied, option_to_list};
+ghost use Rattle.std.specs.List.{AllByRecursion};
+ghost use Rattle.mode6_frame.specs.Cuts.{IsCuttable};
+ghost use Rattle.mode6_frame.specs.ItemTexts.{IsWritable};
 ghost use Rattle.mode6_frame.specs.Told.{told_number};
-ghost use Rattle.sys_vars.specs.Variables.{asked_numbers, is_unknown, variable_of, variables_of, vars_fault_of};
+ghost use Rattle.sys_vars.specs.declared.asked.TheConstants.{MAX_NAMES};
+ghost use Rattle.sys_vars.specs.Names.{texts_of};
+ghost use Rattle.sys_vars.specs.Variables.{asked_numbers, first_unknown, is_unknown, items_of, names_in, texts_in, variable_of, variables_of, IsPlainValue, IsShort};
 
-use crate::names::{LEAP, REFID, STRATUM};
+use crate::names::{peer_names, system_names};
+use crate::number_text::fixed;
+use crate::peer_variables::peer_text;
 use crate::published::Record;
-use crate::refid_text::refid_text;
-use crate::system::System;
-use itoa::Buffer;
+use crate::subject::{Subject, subject_of};
+use crate::system_variables::system_text;
 use mode6_frame::{Item, Items, Text};
 use std::alloc::{AllocError, Global};
 
@@ -25,31 +31,26 @@ pub enum VarsFault {
 /// The variables of an association in the order of their numbers' list, or all for an empty one
 /// (RFC 9327, section 4).
 ///
-/// Only the system has variables, as association 0. A name number is a variable's; any other is that
-/// of an unknown name.
+/// Association 0 is the system, any other the peer that has this number. A name number is that of a
+/// variable of the association; any other is that of an unknown name.
 pub fn items(alloc: Global, rec: &Record, assoc: u16, names: &[u8]) -> Result<Items, VarsFault>
-    ensures items { IfOk result (λ items. items ≡ variables_of rec.now.system names.now) }
+    ensures items { IfOk result (λ items. items_of rec.now assoc names.now ≡ Ok items) }
+
+    // Each is read back from the text that is written of it.
+    ensures writable { IfOk result (AllByRecursion IsWritable) }
 
     // The refusals come before memory is taken.
-    ensures refused { MatchOption (vars_fault_of assoc names.now)
-        (IsOkUnless result VarsFault.NoMemory) (λ fault. result ≡ Err fault) }
+    ensures refused { (fault : VarsFault) → items_of rec.now assoc names.now ≡ Err fault
+        → result ≡ Err fault }
+    ensures due { IfErr result (λ fault. (fault ≡ VarsFault.NoMemory)
+        ⊎ (items_of rec.now assoc names.now ≡ Err fault)) }
 {
-    match first_fault(assoc, names) {
-        Some(fault) => Err(fault),
-        None => Ok(Items::of(variables(alloc, &rec.system, asked(names))?)),
-    }
-}
-
-/// Why the variables are not given, if they are not.
-fn first_fault(assoc: u16, names: &[u8]) -> Option<VarsFault>
-    ensures { result ≡ vars_fault_of assoc names.now }
-{
-    if assoc != 0 {
-        return Some(VarsFault::UnknownAssociation);
-    }
-    match first_unknown(names) {
-        Some(place) => Some(unknown_at(place)),
-        None => None,
+    let Some(subject) = subject_of(rec, assoc) else {
+        return Err(VarsFault::UnknownAssociation);
+    };
+    match first_unknown(&subject, names) {
+        Some(place) => Err(unknown_at(place)),
+        None => Ok(variables(alloc, rec, &subject, names)?),
     }
 }
 
@@ -63,37 +64,75 @@ fn unknown_at(place: usize) -> VarsFault
 }
 
 /// The place of the first number that is no variable's.
-fn first_unknown(names: &[u8]) -> Option<usize>
-    ensures { result ≡ position is_unknown names.now }
+pub(crate) fn first_unknown(subject: &Subject, names: &[u8]) -> Option<usize>
+    ensures { result ≡ first_unknown subject.now names.now }
 {
-    names.iter().position(|&number| is_unknown(number))
+    names.iter().position(|&number| is_unknown(subject, number))
 }
 
 /// Whether no variable has this number.
-fn is_unknown(number: u8) -> bool
-    ensures { result ≡ is_unknown number }
+fn is_unknown(subject: &Subject, number: u8) -> bool
+    ensures { result ≡ is_unknown subject.now number }
 {
-    !matches!(number, LEAP | STRATUM | REFID)
+    name_in(subject, number).is_none()
+}
+
+/// The variables that are asked for: those of these numbers, or all where there are none.
+pub(crate) fn variables(
+    alloc: Global,
+    rec: &Record,
+    subject: &Subject,
+    names: &[u8],
+) -> Result<Items, AllocError>
+    ensures value { IfOk result (λ items. items ≡ variables_of rec.now subject.now names.now) }
+    ensures cuttable { length names.now ≤ MAX_NAMES → IfOk result (IsCuttable rec.now.epoch) }
+    ensures writable { IfOk result (AllByRecursion IsWritable) }
+{
+    Ok(Items::of(listed(alloc, rec, subject, asked(subject, names))?))
 }
 
 /// The numbers that are asked for: all, where none is named.
-fn asked(names: &[u8]) -> &[u8]
-    ensures { result.now ≡ asked_numbers names.now }
+fn asked<'a>(subject: &Subject, names: &'a [u8]) -> &'a [u8]
+    ensures numbers { result.now ≡ asked_numbers subject.now names.now }
+    ensures few { length names.now ≤ MAX_NAMES → length result.now ≤ MAX_NAMES }
 {
     if names.is_empty() {
-        &[LEAP, STRATUM, REFID]
+        all_numbers(subject)
     } else {
         names
     }
 }
 
+/// The numbers of all variables.
+#[tactic(auto, unfolding(crate::specs::Names::system_names, crate::specs::Names::peer_names))]
+fn all_numbers(subject: &Subject) -> &'static [u8]
+    ensures numbers { result.now ≡ asked_numbers subject.now [] }
+    ensures few { length result.now ≤ 23 }
+{
+    match subject {
+        Subject::System => &[0, 1, 2, 3, 4, 5, 6, 7, 8, 9, 10, 11, 12, 13, 14, 15],
+        Subject::Peer(_) => &[
+            0, 1, 2, 3, 4, 5, 6, 7, 8, 9, 10, 11, 12, 13, 14, 15, 16, 17, 18, 19, 20, 21, 22,
+        ],
+    }
+}
+
 /// The variables of these numbers.
-fn variables(alloc: Global, system: &System, numbers: &[u8]) -> Result<Vec<Item>, AllocError>
-    ensures { IfOk result (λ items. items.items ≡ filter_map (variable_of system.now) numbers.now) }
+fn listed(
+    alloc: Global,
+    rec: &Record,
+    subject: &Subject,
+    numbers: &[u8],
+) -> Result<Vec<Item>, AllocError>
+    ensures value { IfOk result (λ items.
+        items.items ≡ filter_map (variable_of rec.now subject.now) numbers.now) }
+    ensures short { IfOk result (λ items. AllByRecursion IsShort items.items) }
+    ensures few { IfOk result (λ items. length items.items ≤ length numbers.now) }
+    ensures writable { IfOk result (λ items. AllByRecursion IsWritable items.items) }
 {
     let mut items = Vec::new(alloc);
     for &number in numbers {
-        keep(&mut items, variable(alloc, system, number)?)?;
+        keep(&mut items, variable(alloc, rec, subject, number)?)?;
     }
     Ok(items)
 }
@@ -110,39 +149,54 @@ fn keep(items: &mut Vec<Item>, item: Option<Item>) -> Result<(), AllocError>
 
 /// The variable of a number, if there is one.
 #[tactic(auto, unfolding(crate::specs::Variables::variable_of))]
-fn variable(alloc: Global, system: &System, number: u8) -> Result<Option<Item>, AllocError>
-    ensures { IfOk result (λ item. item ≡ variable_of system.now number) }
+fn variable(
+    alloc: Global,
+    rec: &Record,
+    subject: &Subject,
+    number: u8,
+) -> Result<Option<Item>, AllocError>
+    ensures value { IfOk result (λ item. item ≡ variable_of rec.now subject.now number) }
+    ensures short { IfOk result (λ item. IfSome item IsShort) }
+    ensures writable { IfOk result (λ item. IfSome item IsWritable) }
 {
-    if number == LEAP {
-        given(alloc, b"leap", decimal_text(alloc, system.leap)?)
-    } else if number == STRATUM {
-        given(alloc, b"stratum", decimal_text(alloc, system.stratum)?)
-    } else if number == REFID {
-        let value = refid_text(alloc, system.stratum, &system.refid)?;
-        given(alloc, b"refid", value)
-    } else {
-        Ok(None)
+    match name_in(subject, number) {
+        Some(name) => Ok(Some(Item {
+            name: fixed(alloc, name.as_bytes())?,
+            value: Some(text(alloc, rec, subject, number)?),
+        })),
+        None => Ok(None),
     }
 }
 
-/// The item with this name and value.
-fn given(alloc: Global, name: &[u8], value: Text) -> Result<Option<Item>, AllocError>
-    ensures { IfOk result
-        (λ item. item ≡ Some (record { name = name.now; value = Some value })) }
+/// The name of the variable of a number, if there is one.
+fn name_in(subject: &Subject, number: u8) -> Option<&'static str>
+    ensures { option_copied result ≡ slice_get (names_in subject.now) number }
 {
-    let name = Text::of(Vec::from_slice(alloc, name)?);
-    Ok(Some(Item {
-        name,
-        value: Some(value),
-    }))
+    names_in(subject).get(usize::from(number)).copied()
 }
 
-/// A number in decimal digits.
-fn decimal_text(alloc: Global, number: u8) -> Result<Text, AllocError>
-    ensures { IfOk result (λ text. text ≡ decimal number) }
+/// The names of the variables of a system or a peer; each stands at its number.
+fn names_in(subject: &Subject) -> &'static [&'static str]
+    ensures names { texts_of result.now ≡ names_in subject.now }
 {
-    let mut digits = Buffer::new();
-    Ok(Text::of(Vec::from_slice(alloc, digits.format(number).as_bytes())?))
+    match subject {
+        Subject::System => system_names(),
+        Subject::Peer(_) => peer_names(),
+    }
+}
+
+/// The text of the variable of a number.
+fn text(alloc: Global, rec: &Record, subject: &Subject, number: u8) -> Result<Text, AllocError>
+    requires { number < length (names_in subject.now) }
+    ensures value { IfOk result (λ text.
+        text ≡ slice_index_or (texts_in rec.now subject.now) number []) }
+    ensures short { IfOk result (λ text. length text ≤ 237) }
+    ensures plain { IfOk result IsPlainValue }
+{
+    match subject {
+        Subject::System => system_text(alloc, rec, number),
+        Subject::Peer(peer) => peer_text(alloc, peer, number),
+    }
 }
 
 impl From<AllocError> for VarsFault {
@@ -153,45 +207,5 @@ impl From<AllocError> for VarsFault {
 
     fn from(_: AllocError) -> VarsFault {
         VarsFault::NoMemory
-    }
-}
-
-#[cfg(test)]
-mod tests {
-    use super::*;
-    use fixed_time::Ntp64;
-    use std::test::Fail;
-
-    #[test]
-    fn all_variables_are_given_where_none_is_named(rt: HostRuntime) -> Result<(), Fail> {
-        let opening = Record::opening(rt.alloc(), Ntp64(0))?;
-        let given = items(rt.alloc(), &opening, 0, &[]);
-        assert!(rt; given.is_ok());
-        if let Ok(given) = given {
-            assert_eq!(rt; given.len(), 3);
-            assert!(rt; given.get(0).name.as_slice() == b"leap".as_slice());
-            assert!(rt; given.get(1).name.as_slice() == b"stratum".as_slice());
-            assert!(rt; given.get(2).name.as_slice() == b"refid".as_slice());
-        }
-        Ok(())
-    }
-
-    #[test]
-    fn the_association_is_judged_before_the_names(rt: HostRuntime) -> Result<(), Fail> {
-        let opening = Record::opening(rt.alloc(), Ntp64(0))?;
-        let cases = [
-            (9, b"\xff".as_slice(), VarsFault::UnknownAssociation),
-            (0, b"\x03".as_slice(), VarsFault::UnknownName { place: 0 }),
-            (
-                0,
-                b"\x02\x06\x00\xff".as_slice(),
-                VarsFault::UnknownName { place: 2 },
-            ),
-        ];
-        for (assoc, names, fault) in cases {
-            let refused = items(rt.alloc(), &opening, assoc, names).err();
-            assert_eq!(rt; refused, Some(fault), "{names:?}");
-        }
-        Ok(())
     }
 }

@@ -1,20 +1,34 @@
-use Rattle.std.proofs.Common.{◌-◌, take, drop, sym, subst}
-use Rattle.mode6_frame.specs.ItemReader.{IsSlotRead}
-use Rattle.mode6_frame.proofs.SlotLemmas.{IsSlotRead-blank, IsSlotRead-named, with_name-pushed}
+use Rattle.std.proofs.Common.{◌∙◌, ◌++◌, ◌∷◌, [], sym, ap, rules}
+use Rattle.mode6_frame.proofs.SlotLemmas.{IsNameAt-found, IsSlotRead-blank, IsSlotRead-named, IsSlotRead-valued, IsUnclosedSlot-valued}
 use Rattle.mode6_frame.proofs.item_text.read_slot.Goals as goal
 
-pub returns-then-name-name_end-clause-read : goal.returns-then-name-name_end-clause-read
-returns-then-name-name_end-clause-read c =
-    IsSlotRead-blank c.args.text.now c.args.at c.past_white-name.result c.past_name-name_end.result c.args.items.now.items
-    c.past_white-name.ensures.within c.past_white-name.ensures.past c.past_name-name_end.ensures.past c.if-name-name_end.true
+pub returns-then-begin-end-clause-read : goal.returns-then-begin-end-clause-read
+returns-then-begin-end-clause-read c =
+    IsSlotRead-blank c.args.text.now c.args.at c.past_white-begin.result c.past_name-end.result c.args.items.now.items
+    c.past_white-begin.ensures.within c.past_white-begin.ensures.past c.past_name-end.ensures.past c.if-begin-end.true
+
+pub returns-then-not-is_at-clause-read : goal.returns-then-not-is_at-clause-read
+returns-then-not-is_at-clause-read c =
+    let name = IsNameAt-found c.args.text.now c.args.at c.past_white-begin.result c.past_name-end.result c.past_white-past.result
+    c.past_white-begin.ensures.past c.past_name-end.ensures.past c.if-begin-end.false c.past_white-past.ensures.past c.past_white-past.ensures.within in
+    IsSlotRead-named c.args.text.now c.args.at c.past_white-begin.result c.past_name-end.result c.past_white-past.result
+    c.args.items.now.items c.push.new.self.items name (sym c.is_at.ensures ∙ c.if-not-is_at.true)
+    (c.in_ok-push.ensures.items ∙ ap (λ last. c.args.items.now.items ++ last ∷ []) c.in_ok-named.ensures.named)
+
+pub returns-in_err-place-clause-unclosed : goal.returns-in_err-place-clause-unclosed
+returns-in_err-place-clause-unclosed c =
+    let name = IsNameAt-found c.args.text.now c.args.at c.past_white-begin.result c.past_name-end.result c.past_white-past.result
+    c.past_white-begin.ensures.past c.past_name-end.ensures.past c.if-begin-end.false c.past_white-past.ensures.past c.past_white-past.ensures.within in
+    let is = IsUnclosedSlot-valued c.args.text.now c.args.at c.past_white-begin.result c.past_name-end.result c.past_white-past.result
+    c.in_err-place.field-0.0 name (sym c.is_at.ensures ∙ c.if-not-is_at.false) c.in_err-place.ensures.unclosed in
+    search (rules, is)
 
 pub returns-clause-read : goal.returns-clause-read
 returns-clause-read c =
-    let text = c.args.text.now in
-    let name = c.past_white-name.result in
-    let name_end = c.past_name-name_end.result in
-    let old = c.args.items.now.items in
-    let pushed = with_name-pushed old c.push.new.self.items c.in_ok-named.field-0 (take (name_end - name) (drop name text)) c.in_ok-push.ensures.items c.in_ok-named.ensures.named in
-    subst (IsSlotRead text c.args.at c.past_white.result old) (sym pushed)
-    (IsSlotRead-named text c.args.at name name_end c.past_white.result old
-    c.past_white.ensures.within c.past_white-name.ensures.past c.past_name-name_end.ensures.past c.if-name-name_end.false c.past_white.ensures.past)
+    let name = IsNameAt-found c.args.text.now c.args.at c.past_white-begin.result c.past_name-end.result c.past_white-past.result
+    c.past_white-begin.ensures.past c.past_name-end.ensures.past c.if-begin-end.false c.past_white-past.ensures.past c.past_white-past.ensures.within in
+    let place = c.in_ok-place.place in
+    IsSlotRead-valued c.args.text.now c.args.at c.past_white-begin.result c.past_name-end.result c.past_white-past.result
+    place.begin place.end place.past c.args.items.now.items c.push-2.new.self.items
+    name (sym c.is_at.ensures ∙ c.if-not-is_at.false) c.in_ok-place.ensures.read
+    (c.in_ok-push-2.ensures.items ∙ ap (λ last. c.args.items.now.items ++ last ∷ []) c.in_ok-valued.ensures.valued)

@@ -1,4 +1,4 @@
-use Rattle.std.proofs.Common.{◌≡◌, ◌∷◌, List, ℕ, subst}
+use Rattle.std.proofs.Common.{◌≡◌, [], ◌∷◌, List, ℕ, inl, refl, subst}
 use Rattle.net_addr.specs.declared.addr.Addr.{Addr}
 use Rattle.sys_vars.specs.declared.context.Context.{Context}
 use Rattle.server_core.specs.States.{ServerState}
@@ -6,7 +6,7 @@ use Rattle.server_core.specs.declared.response.Response.{Response}
 use Rattle.server_core.specs.Responses.{IsResponse}
 use Rattle.ntpd_serve.specs.declared.once.Common.{Common}
 use Rattle.ntpd_serve.specs.Once.{context_at}
-use Rattle.ntpd_serve.proofs.OnceLemmas.{Follows-GivesResponse, Grows-Grows}
+use Rattle.ntpd_serve.proofs.OnceLemmas.{Follows-GivesResponse, Grows-Grows, gained-nothing}
 use Rattle.ntpd_serve.proofs.once.serve_datagram.Goals as goal
 
 -- the response to the octets that were lent is that to the datagram
@@ -25,3 +25,6 @@ returns-in-Ok-clause-follows g c =
       gives.3,
       Grows-Grows _ _ _ _ _ c.now-came.ensures gives.4,
     )
+
+pub returns-in-Err-clause-follows : goal.returns-in-Err-clause-follows
+returns-in-Err-clause-follows g c = ([], c.now-came.result ∷ [], inl refl, gained-nothing _, c.now-came.ensures)

@@ -1,11 +1,11 @@
-use Rattle.std.proofs.Common.{subst}
+use Rattle.std.proofs.Common.{subst, arith}
 use Rattle.mode6_frame.specs.Frames.{parts_of}
 use Rattle.mode6_frame.specs.Items.{IsDue}
-use Rattle.server_core.proofs.ControlLemmas.{names_room, only_variables, only_bad_format, unless_no_memory}
+use Rattle.server_core.proofs.ControlLemmas.{only_variables, only_bad_format, unless_no_memory}
 use Rattle.server_core.proofs.control.variables_asked.Goals as goal
 
 pub numbers_asked-requires : goal.numbers_asked-requires
-numbers_asked-requires c = names_room _ _ c.requires.fits c.in-Ok.ensures.found
+numbers_asked-requires c = omega (arith, c.in-Ok.ensures.room, c.requires.fits.body)
 
 pub returns-in_ok-numbers_asked-in-Ok-clause-only :
     goal.returns-in_ok-numbers_asked-in-Ok-clause-only

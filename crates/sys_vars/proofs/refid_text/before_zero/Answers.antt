@@ -23,8 +23,8 @@ before_first-None p xs is =
     let failed : ltb (position_or_len p xs) (length xs) ≡ false = none-cond _ _ is in
     sym (take_all (position_or_len p xs) xs (grind (arith, nat_tests)))
 
-pub returns-in-Some : goal.returns-in-Some
-returns-in-Some c = before_first-Some _ _ c.in-Some.len (sym c.in-Some.ensures)
+pub returns-in-Some-clause-value : goal.returns-in-Some-clause-value
+returns-in-Some-clause-value c = before_first-Some _ _ c.in-Some.len (sym c.in-Some.ensures)
 
-pub returns-in-None : goal.returns-in-None
-returns-in-None c = before_first-None _ _ (sym c.in-None.ensures)
+pub returns-in-None-clause-value : goal.returns-in-None-clause-value
+returns-in-None-clause-value c = before_first-None _ _ (sym c.in-None.ensures)

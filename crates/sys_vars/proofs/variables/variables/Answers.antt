@@ -1,9 +1,10 @@
-use Rattle.std.proofs.Common.{arith}
-use Rattle.sys_vars.specs.Variables.{variable_of}
-use Rattle.sys_vars.proofs.VariableLemmas.{filter_map-step}
+use Rattle.std.proofs.Common.{List, sym, subst, arith}
+use Rattle.mode6_frame.specs.declared.items.Item.{Item}
+use Rattle.mode6_frame.specs.Cuts.{IsCuttable}
+use Rattle.sys_vars.proofs.CutLemmas.{IsCuttable-short}
 use Rattle.sys_vars.proofs.variables.variables.Goals as goal
 
-pub loop-number-preserved : goal.loop-number-preserved
-loop-number-preserved c =
-    filter_map-step (variable_of c.args.system.now) c.args.numbers.now c.loop-number.number-index 0 c.loop-number.items.items _ _
-    c.loop-number.invariant (omega arith) c.in_ok-variable.ensures c.in_ok-keep.ensures
+pub returns-clause-cuttable : goal.returns-clause-cuttable
+returns-clause-cuttable c = λ few.
+    subst (λ (items : List Item). IsCuttable c.args.rec.now.epoch items) (sym c.of.ensures)
+    (IsCuttable-short c.args.rec.now.epoch _ c.in_ok-listed.ensures.short (omega (arith, c.in_ok-listed.ensures.few, c.asked.ensures.few few)))
