@@ -1,0 +1,4 @@
+pub mod DigitLemmas
+pub mod LifetimeLemmas
+pub mod NonceLemmas
+mod WorkedFacts
