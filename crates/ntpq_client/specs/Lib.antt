@@ -1,0 +1,12 @@
+pub mod Requests
+pub mod Talks
+pub mod Dialogues
+pub mod Answered
+pub mod Ends
+pub mod Exchanges
+pub use Rattle.mode6_frame.specs.Frames
+pub use Rattle.mode6_frame.specs.Groups
+pub use Rattle.mode6_frame.specs.Places
+pub use Rattle.mode6_frame.specs.Served
+pub use Rattle.edge_traits.specs.Ports
+pub use Rattle.edge_traits.specs.Told
