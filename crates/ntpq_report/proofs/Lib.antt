@@ -1,0 +1,3 @@
+pub mod AssociationLemmas
+mod RowLemmas
+mod WorkedFacts

@@ -1,0 +1,6 @@
+pub mod Fields
+pub mod Variables
+pub mod Associations
+pub mod Columns
+pub mod Peers
+pub use Rattle.mode6_frame.specs.Told

@@ -1,0 +1,23 @@
+//! The reports of the query tool, as texts: the variables of an association, the associations of a
+//! server with their status words, and a line for each peer.
+//!
+//! Layer 6. Stands on: `mode6_frame`, `edge_traits`, `text_words`.
+//! Promises: each report is the text that its definition says; an answer from which there is none
+//! is refused exactly; want of memory leaves no part of a report.
+#![tactic(auto)]
+
+pub mod association_report;
+pub mod associations;
+mod columns;
+pub mod faults;
+mod fields;
+mod peer_variables;
+pub mod peers;
+pub mod variables;
+
+pub use association_report::as_report;
+pub use associations::{AssociationStatus, Associations, read_associations};
+pub use edge_traits::Text;
+pub use faults::ReportFault;
+pub use peers::{peer_line, peers_header};
+pub use variables::rv_report;
