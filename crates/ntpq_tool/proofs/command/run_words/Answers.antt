@@ -1,0 +1,6 @@
+use Rattle.std.proofs.Common.{ap, inl, refl}
+use Rattle.std.specs.Option.{is_some}
+use Rattle.ntpq_tool.proofs.command.run_words.Goals as goal
+
+pub returns-in-Ok-None-clause-happens : goal.returns-in-Ok-None-clause-happens
+returns-in-Ok-None-clause-happens g c = inl (refl, c.in-Ok-None.ensures.none.0 (ap is_some c.in-Ok-None.field-0-is), refl)

@@ -1,0 +1,6 @@
+pub mod Command
+pub mod Ending
+pub mod Usage
+pub mod Scripts
+pub mod Answers
+pub mod Runs
