@@ -26,8 +26,6 @@ mod server_options;
 pub mod servers;
 mod short_lines;
 mod tails;
-#[cfg(test)]
-mod tests;
 mod words;
 
 pub use conf::Conf;

@@ -1,7 +1,7 @@
-use crate::{Conf, ConfFault, read_conf};
 use access_rules::{
     IGNORE, KOD, LIMITED, NOMODIFY, NOMRULIST, NOQUERY, NOSERVE, NOTRUST, VERSION, flags_for,
 };
+use conf_file::{ConfFault, read_conf};
 use net_addr::{read_ip, read_named};
 use std::test::Fail;
 

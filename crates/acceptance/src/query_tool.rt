@@ -1,0 +1,4 @@
+//! The query tool: requests, and the answers to them, over ports in memory.
+
+mod asking;
+mod reports;

@@ -1,0 +1,8 @@
+//! The server for one thread: classes of datagrams, replies, and one operation after another.
+
+mod book;
+mod classing;
+mod control;
+mod exchanges;
+mod reply;
+mod responding;
