@@ -4,7 +4,7 @@ functions that other crates can call docs/CLAIMS.md does not name.
 A function is named `crate::function`, `crate::Type::method` or `crate::module::function`, and one that other
 crates cannot call has the word private before it. Its clauses may follow, as (`found`, `only`). Any other
 `crate::name` has to be a type, trait, constant or module. Of `Type::method` and of a name with an underscore, any
-crate has to have one. Prints each fault with its place, and fails where there is one.
+crate has to have one; such a name may also be a text that its specs spell, as a variable's. Prints each fault with its place, and fails where there is one.
 """
 import re
 import sys
@@ -25,7 +25,7 @@ class Names:
         for function in sources.functions():
             self.functions.setdefault((function.crate, function.owner, function.name), []).append(function)
         self.items = {crate: sources.items(crate) for crate in self.crates}
-        self.loose = self.crates | {word.name for word in sources.words()}
+        self.loose = self.crates | {word.name for word in sources.words()} | sources.texts()
         for crate, owner, name in self.functions:
             self.loose.update((name, "%s::%s" % (owner, name)))
         for group in list(self.items.values()) + [f.clauses for fs in self.functions.values() for f in fs]:

@@ -43,6 +43,12 @@ def source_files(crate):
     return [file for file in found if file.name != "tests.rt" and "tests" not in file.parts]
 
 
+def texts():
+    """The texts that specs/ spell: words of commands and names of variables among them."""
+    files = [file for crate in crates() for file in (TOP / "crates" / crate / "specs").glob("*.antt")]
+    return {text for file in files for text in re.findall(r'codes "([^"]*)"', file.read_text(encoding="utf-8"))}
+
+
 def without_comments(text):
     return "\n".join("" if line.lstrip().startswith("//") else line for line in text.split("\n"))
 
