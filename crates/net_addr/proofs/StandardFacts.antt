@@ -1,11 +1,13 @@
 -- Worked texts, prefixes and masks: by hand, and from RFC 5952.
-use Rattle.std.proofs.Common.{◌≡◌, ◌≤◌, ℕ, List, [], ◌∷◌, codes, refl, lit≤}
+use Rattle.std.proofs.Common.{◌≡◌, ◌≤◌, ℕ, List, [], ◌∷◌, Some, None, codes, refl, lit≤}
 use Rattle.std.specs.Fmt.{digits}
+use Rattle.std.specs.Net.Reader.{read_ipv4, read_ipv6, read_number, read_octet, read_segment, read_segments}
 use Rattle.std.specs.Net.Text.{hex, hex_groups_text, longest_zero_run}
 use Rattle.std.proofs.NetLemmas.Texts.{IsZeroRun, longest_zero_run_first}
 use Rattle.net_addr.specs.declared.addr.Ip.TheVariants.{V4, V6}
 use Rattle.net_addr.specs.Addresses.{number_of}
 use Rattle.net_addr.specs.Prefixes.{IsMask, numbered, without_host_bits}
+use Rattle.net_addr.specs.Readings.{addr_in, host_in}
 use Rattle.net_addr.specs.Spelling.{ip_text, text_of}
 
 loopback : text_of (record { ip = V4 (127 ∷ 0 ∷ 0 ∷ 1 ∷ []); port = 123 }) ≡ codes "127.0.0.1:123"
@@ -64,3 +66,20 @@ all_cleared = refl
 mask : IsMask (V4 (255 ∷ 255 ∷ 240 ∷ 0 ∷ [])) 20
 unfolding number_of
 mask = (lit≤ tt, refl)
+
+-- what is read of these texts; a port has 16 bits and no leading zeros
+read_loopback : addr_in (codes "127.0.0.1:123") ≡ Some (record { ip = V4 (127 ∷ 0 ∷ 0 ∷ 1 ∷ []); port = 123 })
+unfolding addr_in host_in read_ipv4 read_octet read_number digits
+read_loopback = refl
+
+read_loopback_v6 : addr_in (codes "[::1]:65535") ≡ Some (record { ip = V6 (0 ∷ 0 ∷ 0 ∷ 0 ∷ 0 ∷ 0 ∷ 0 ∷ 0 ∷ 0 ∷ 0 ∷ 0 ∷ 0 ∷ 0 ∷ 0 ∷ 0 ∷ 1 ∷ []); port = 65535 })
+unfolding addr_in host_in read_ipv4 read_ipv6 read_octet read_segments read_segment read_number digits
+read_loopback_v6 = refl
+
+read_large_port : addr_in (codes "127.0.0.1:65536") ≡ None
+unfolding addr_in host_in read_ipv4 read_octet read_number digits
+read_large_port = refl
+
+read_leading_zero : addr_in (codes "127.0.0.1:0123") ≡ None
+unfolding addr_in host_in read_ipv4 read_octet read_number digits
+read_leading_zero = refl

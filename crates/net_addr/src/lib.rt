@@ -8,6 +8,7 @@ pub mod addr;
 pub mod addr_text;
 mod groups;
 pub mod ip_reader;
+pub mod laws;
 pub mod masks;
 pub mod matching;
 mod numbers;

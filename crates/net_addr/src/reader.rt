@@ -1,4 +1,5 @@
 ghost use Rattle.std.specs.Prelude.{◌≡◌, ◌↔◌, Some, IsNone, IfSome};
+ghost use Rattle.net_addr.specs.Readings.{addr_in};
 ghost use Rattle.net_addr.specs.Spelling.{IsAddr, Spells, StandsFor};
 ghost use Rattle.net_addr.specs.declared.addr.Addr.{Addr};
 
@@ -9,6 +10,7 @@ use crate::numbers::cut_number;
 /// The address that a text with a port spells, as `1.2.3.4:123` and `[::1]:123` do. Nothing may
 /// stand before it or after it, no decimal number has a sign or leading zeros, and there is no zone.
 pub fn read_named(text: &[u8]) -> Option<Addr>
+    ensures value { result ≡ addr_in text.now }
     ensures found { IfSome result (λ a. Spells text.now a) }
     ensures fits { IfSome result (λ a. IsAddr a) }
     ensures only { (a : Addr) → IsAddr a → Spells text.now a → result ≡ Some a }
