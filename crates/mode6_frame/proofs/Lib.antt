@@ -4,6 +4,7 @@ pub mod PartLemmas
 pub mod ItemLemmas
 pub mod SlotLemmas
 pub mod ItemTextLemmas
+pub mod ReadingLemmas
 pub mod RoomLemmas
 pub mod TagLemmas
 pub mod CutLemmas
@@ -12,6 +13,7 @@ pub mod GroupLemmas
 pub mod KeptLemmas
 pub mod JoinLemmas
 pub mod ServedLemmas
+pub mod StampLemmas
 mod StandardFacts
 mod CodeFacts
 mod CutFacts

@@ -1,5 +1,5 @@
 -- Worked octets: a request for the variable `stratum`, its answer, errors and names (RFC 9327, sections 2, 3.4 and 4).
-use Rattle.std.proofs.Common.{◌≡◌, ℕ, true, false, List, [], ◌∷◌, ◌++◌, take, drop, Some, None, refl, lit<, lit≤, ◌≤◌, codes}
+use Rattle.std.proofs.Common.{◌≡◌, ℕ, ◌+◌, ◌*◌, ◌^◌, true, false, List, [], ◌∷◌, ◌++◌, take, drop, Some, None, refl, lit<, lit≤, ◌≤◌, codes}
 use Rattle.mode6_frame.specs.declared.message.TheConstants.{HEAD_LEN, MAX_BODY}
 use Rattle.mode6_frame.specs.declared.message.FrameFault.TheVariants.{Short, BadVersion, BadMode, BadCount}
 use Rattle.mode6_frame.specs.declared.message.Head.{Head}
@@ -9,6 +9,10 @@ use Rattle.refusals.specs.Refusals.{IsRefusedAt}
 use Rattle.refusals.specs.Machines.{refused_where_stuck}
 use Rattle.mode6_frame.specs.Items.{IsItemText, Blank, Named}
 use Rattle.mode6_frame.specs.ItemReader.{item_reader, Within}
+use Rattle.mode6_frame.specs.Readings.{items_read}
+use Rattle.mode6_frame.specs.declared.stamps.TheConstants.{MAX_DIGITS, STAMP_LEN}
+use Rattle.hex.specs.Hex.{encode_with}
+use Rattle.mode6_frame.specs.Stamps.{stamp_in, stamp_text}
 use Rattle.mode6_frame.proofs.ItemLemmas.{reads_items}
 
 -- operation 2 of version 2, for `stratum`
@@ -168,3 +172,34 @@ broadcast-status = refl
 
 unknown_name-status : error_status_word 5 ≡ 0x0500
 unknown_name-status = refl
+
+-- what is read of these texts: a name, a value in quotes and no value; and nothing, where quotes are open
+read-values : items_read (codes "re, a=\"x, y\",b = ") ≡ Some (
+    record { name = codes "re"; value = None }
+    ∷ record { name = codes "a"; value = Some (codes "x, y") }
+    ∷ record { name = codes "b"; value = Some [] }
+    ∷ [])
+unfolding items_read
+read-values = refl
+
+read-unclosed : items_read (codes "a=\"x") ≡ None
+unfolding items_read
+read-unclosed = refl
+
+-- how long a timestamp's text is, and how many digits it has
+stamp-sizes : STAMP_LEN ∷ MAX_DIGITS ∷ [] ≡ 19 ∷ 16 ∷ []
+stamp-sizes = refl
+
+-- one second after the origin of Unix time
+stamp-written : stamp_text (0x83aa7e81 * 2 ^ 32) ≡ codes "0x83aa7e81.00000000"
+unfolding stamp_text encode_with
+stamp-written = refl
+
+-- it is read in either case, and not without its point
+stamp-read : stamp_in (codes "0x83AA7e81.80000000") ≡ Some (0x83aa7e81 * 2 ^ 32 + 2 ^ 31)
+unfolding stamp_in
+stamp-read = refl
+
+stamp-pointless : stamp_in (codes "0x83aa7e81 00000000") ≡ None
+unfolding stamp_in
+stamp-pointless = refl

@@ -8,6 +8,8 @@ pub mod Cuts
 pub mod Drafts
 pub mod Groups
 pub mod Served
+pub mod Readings
+pub mod Stamps
 pub use Rattle.refusals.specs.Refusals
 pub use Rattle.refusals.specs.Told
 pub use Rattle.ntp_packet.specs.FirstOctet

@@ -1,10 +1,10 @@
-ghost use Rattle.std.specs.Prelude.{◌≡◌, ◌<◌, ◌≤◌, length};
-ghost use Rattle.std.specs.List.{AllByRecursion, flat_map};
+ghost use Rattle.std.specs.Prelude.{◌≡◌, ◌<◌, ◌≤◌, codes, length};
+ghost use Rattle.std.specs.List.{AllByRecursion, flat_map, join_by};
 ghost use Rattle.mode6_frame.specs.declared.message.TheConstants.{MAX_BODY};
 ghost use Rattle.mode6_frame.specs.Cuts.{AreGreedy, AreShort, IsCuttable, LieFrom, TAG_ITEM_LEN, lengths_of, parts_count, parts_cut, runs_after, tag_text};
 ghost use Rattle.mode6_frame.specs.Groups.{tag_of};
 ghost use Rattle.mode6_frame.specs.Items.{IsItemText};
-ghost use Rattle.mode6_frame.specs.ItemTexts.{IsWritable};
+ghost use Rattle.mode6_frame.specs.ItemTexts.{IsWritable, item_text};
 ghost use Rattle.mode6_frame.specs.Served.{text_in};
 
 use crate::items::Items;
@@ -14,6 +14,13 @@ pub fn answers_are_read_back(items: &Items, tag: u64)
     requires writable { AllByRecursion IsWritable items.now }
     requires cuttable { IsCuttable tag items.now }
     ensures { IsItemText (text_in (parts_cut tag items.now)) items.now }
+{}
+
+/// Items with a comma and a space between, and no line end, are a text of them; for no items it is
+/// empty.
+pub fn spaced_items_are_read_back(items: &Items)
+    requires writable { AllByRecursion IsWritable items.now }
+    ensures { IsItemText (join_by item_text (codes ", ") items.now) items.now }
 {}
 
 /// The parts lie end to end from the first octet on, all but the last say that more follow, and no

@@ -6,6 +6,7 @@ ghost use Rattle.mode6_frame.specs.declared.items.Item.{Item};
 ghost use Rattle.mode6_frame.specs.declared.items.ItemFault.TheVariants.{At, NoMemory};
 ghost use Rattle.mode6_frame.specs.ItemReader.{IsSlotRead, IsUnclosedSlot, IsValueRead, IsUnclosedValue, IsToldAt, IsTrimmedAt, is_octet_at};
 ghost use Rattle.mode6_frame.specs.Items.{IsItemText, IsDue, is_white, is_name_octet, is_quoted_octet, is_bare_octet};
+ghost use Rattle.mode6_frame.specs.Readings.{items_read};
 
 use crate::items::{Item, ItemFault, Items};
 use edge_traits::Text;
@@ -22,12 +23,14 @@ pub fn read_items(alloc: Global, text: &[u8]) -> Result<Items, ItemFault>
     ensures found { IfOk result (λ items. IsItemText text.now items) }
     ensures only { (items : List Item) → IsItemText text.now items
         → IsUnless NoMemory result (Ok items) }
+    ensures read { IfOk result (λ items. items_read text.now ≡ Some items) }
     ensures room { IfOk result (λ items. 2 * length items ≤ length text.now + 1) }
 
     // The refusals: want of memory comes freely, and the place exactly.
     ensures refused { IfErr result (IsDue text.now) }
     ensures refused_only { (octets : ℕ) → IsRefusedAt IsItemText text.now octets
         → IsUnless NoMemory result (Err (At (told_number octets))) }
+    ensures unread { (place : ℕ) → result ≡ Err (At place) → items_read text.now ≡ None }
 {
     let mut items = Vec::new(alloc);
     let mut at = 0;

@@ -1,9 +1,17 @@
-ghost use Rattle.std.specs.Prelude.{List, Contains};
+ghost use Rattle.std.specs.Prelude.{◌≡◌, ◌↔◌, List, Some, Contains};
 ghost use Rattle.mode6_frame.specs.Frames.{parts_of};
 ghost use Rattle.mode6_frame.specs.Groups.{GroupsParts, kept_after, step_of};
+ghost use Rattle.mode6_frame.specs.Items.{IsItemText};
+ghost use Rattle.mode6_frame.specs.Readings.{items_read};
 ghost use Rattle.mode6_frame.specs.Served.{AreOf, AreServed, IsDatagramOf, IsTold, Served};
 
+use crate::items::Items;
 use crate::message::Frame;
+
+/// The items that are read of a text are exactly those that it is a text of.
+pub fn a_text_has_the_items_that_are_read(text: &[u8], items: &Items)
+    ensures { (items_read text.now ≡ Some items.now) ↔ IsItemText text.now items.now }
+{}
 
 /// Where fragments of these answers alone are kept, a datagram of one of them leads to a whole answer
 /// only if it tells that one, and to a refusal only if that one is the refusal; what is kept then is

@@ -23,43 +23,112 @@ pub mod operations;
 pub mod reading;
 pub mod selections;
 pub mod sources;
+pub mod stamps;
 pub mod status;
 pub mod tags;
 pub mod writing;
 
-pub use cutting::{MAX_ITEM, cut, whole_gram};
+pub use cutting::MAX_ITEM;
+pub use cutting::cut;
+pub use cutting::whole_gram;
 pub use edge_traits::Text;
-pub use errors::{
-    BAD_ASSOCIATION, BAD_AUTHENTICATION, BAD_FORMAT, BAD_NAME, BAD_OPERATION, BAD_VALUE, PROHIBITED,
-};
-pub use events::{
-    ACCESS_DENIED, AUTHENTICATION_FAILED, BECAME_SYSTEM_PEER, CLOCK_EVENT, CLOCK_STEPPED,
-    CLOCK_SYNCHRONIZED, DEMOBILIZED, FREQUENCY_STEPPED, FREQUENCY_TRAINING, INTERLEAVE_RECOVERED,
-    INTERLEAVED, KERNEL_CHANGED, LEAP_ARMED, LEAP_DISARMED, LEAP_DONE, LEAP_TABLE_LOADED,
-    LEAP_TABLE_OUTDATED, LEAP_VOTED, MAX_EVENTS, MOBILIZED, NO_DRIFT_FILE, NO_EVENT, NO_REPLY,
-    NO_SYSTEM_PEER, PANIC_STOP, RATE_EXCEEDED, REACHABLE, RESTARTED, SPIKE_DETECTED,
-    SPIKE_SUPPRESSED, SYSTEM_RESTARTED, UNREACHABLE,
-};
-pub use groups::{Groups, MAX_GROUPS, MAX_PIECES, Step, Unused};
+pub use errors::BAD_ASSOCIATION;
+pub use errors::BAD_AUTHENTICATION;
+pub use errors::BAD_FORMAT;
+pub use errors::BAD_NAME;
+pub use errors::BAD_OPERATION;
+pub use errors::BAD_VALUE;
+pub use errors::PROHIBITED;
+pub use events::ACCESS_DENIED;
+pub use events::AUTHENTICATION_FAILED;
+pub use events::BECAME_SYSTEM_PEER;
+pub use events::CLOCK_EVENT;
+pub use events::CLOCK_STEPPED;
+pub use events::CLOCK_SYNCHRONIZED;
+pub use events::DEMOBILIZED;
+pub use events::FREQUENCY_STEPPED;
+pub use events::FREQUENCY_TRAINING;
+pub use events::INTERLEAVE_RECOVERED;
+pub use events::INTERLEAVED;
+pub use events::KERNEL_CHANGED;
+pub use events::LEAP_ARMED;
+pub use events::LEAP_DISARMED;
+pub use events::LEAP_DONE;
+pub use events::LEAP_TABLE_LOADED;
+pub use events::LEAP_TABLE_OUTDATED;
+pub use events::LEAP_VOTED;
+pub use events::MAX_EVENTS;
+pub use events::MOBILIZED;
+pub use events::NO_DRIFT_FILE;
+pub use events::NO_EVENT;
+pub use events::NO_REPLY;
+pub use events::NO_SYSTEM_PEER;
+pub use events::PANIC_STOP;
+pub use events::RATE_EXCEEDED;
+pub use events::REACHABLE;
+pub use events::RESTARTED;
+pub use events::SPIKE_DETECTED;
+pub use events::SPIKE_SUPPRESSED;
+pub use events::SYSTEM_RESTARTED;
+pub use events::UNREACHABLE;
+pub use groups::Groups;
+pub use groups::MAX_GROUPS;
+pub use groups::MAX_PIECES;
+pub use groups::Step;
+pub use groups::Unused;
 pub use item_text::read_items;
 pub use item_writing::put_item;
-pub use items::{Item, ItemFault, Items};
-pub use message::{Frame, FrameFault, HEAD_LEN, Head, MAX_BODY};
-pub use operations::{
-    OP_CONFIGURE, OP_EXPORT_CONFIGURATION, OP_READ_CLOCK, OP_READ_MRU, OP_READ_NONCE,
-    OP_READ_ORDERED_LIST, OP_READ_STATUS, OP_READ_VARIABLES, OP_SET_TRAP, OP_TRAP_RESPONSE,
-    OP_UNSET_TRAP, OP_WRITE_CLOCK, OP_WRITE_VARIABLES,
-};
+pub use items::Item;
+pub use items::ItemFault;
+pub use items::Items;
+pub use message::Frame;
+pub use message::FrameFault;
+pub use message::HEAD_LEN;
+pub use message::Head;
+pub use message::MAX_BODY;
+pub use operations::OP_CONFIGURE;
+pub use operations::OP_EXPORT_CONFIGURATION;
+pub use operations::OP_READ_CLOCK;
+pub use operations::OP_READ_MRU;
+pub use operations::OP_READ_NONCE;
+pub use operations::OP_READ_ORDERED_LIST;
+pub use operations::OP_READ_STATUS;
+pub use operations::OP_READ_VARIABLES;
+pub use operations::OP_SET_TRAP;
+pub use operations::OP_TRAP_RESPONSE;
+pub use operations::OP_UNSET_TRAP;
+pub use operations::OP_WRITE_CLOCK;
+pub use operations::OP_WRITE_VARIABLES;
 pub use reading::read;
-pub use selections::{
-    BACKUP, EXCESS, FALSETICKER, OUTLIER, PPS_PEER, REJECTED, SURVIVOR, SYSTEM_PEER,
-};
-pub use sources::{
-    ATOMIC_CLOCK, HIGH_RADIO, LOCAL_NET, LOW_RADIO, NO_SOURCE, SATELLITE, TELEPHONE_MODEM, UDP_NTP,
-    UDP_TIME, WRISTWATCH,
-};
-pub use status::{
-    PeerStatus, SystemStatus, error_code, error_status_word, peer_status_word, read_peer_status,
-    read_system_status, system_status_word,
-};
-pub use writing::{error_gram, write};
+pub use selections::BACKUP;
+pub use selections::EXCESS;
+pub use selections::FALSETICKER;
+pub use selections::OUTLIER;
+pub use selections::PPS_PEER;
+pub use selections::REJECTED;
+pub use selections::SURVIVOR;
+pub use selections::SYSTEM_PEER;
+pub use sources::ATOMIC_CLOCK;
+pub use sources::HIGH_RADIO;
+pub use sources::LOCAL_NET;
+pub use sources::LOW_RADIO;
+pub use sources::NO_SOURCE;
+pub use sources::SATELLITE;
+pub use sources::TELEPHONE_MODEM;
+pub use sources::UDP_NTP;
+pub use sources::UDP_TIME;
+pub use sources::WRISTWATCH;
+pub use stamps::STAMP_LEN;
+pub use stamps::put_stamp;
+pub use stamps::read_hexadecimal;
+pub use stamps::read_stamp;
+pub use status::PeerStatus;
+pub use status::SystemStatus;
+pub use status::error_code;
+pub use status::error_status_word;
+pub use status::peer_status_word;
+pub use status::read_peer_status;
+pub use status::read_system_status;
+pub use status::system_status_word;
+pub use writing::error_gram;
+pub use writing::write;

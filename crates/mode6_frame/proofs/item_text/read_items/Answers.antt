@@ -2,6 +2,7 @@ use Rattle.std.proofs.Common.{◌<◌, length, Ok, ap, sym, subst, ◌∙◌, in
 use Rattle.refusals.specs.Refusals.{refused_nowhere}
 use Rattle.mode6_frame.specs.Items.{IsItemText, IsDue}
 use Rattle.mode6_frame.proofs.ItemTextLemmas.{IsItemText-slot, IsRefusedAt-slot, IsClosedAt-comma, IsDue-unclosed, IsUnless-due, IsUnless-refused, IsItemText-one}
+use Rattle.mode6_frame.proofs.ReadingLemmas.{items_read_complete, items_read_due}
 use Rattle.mode6_frame.proofs.RoomLemmas.{item_room}
 use Rattle.mode6_frame.proofs.item_text.read_items.Goals as goal
 
@@ -22,6 +23,9 @@ returns-in_err-end-clause-refused_only c octets refused =
     let unless = IsUnless-refused c.args.text.now octets c.in_err-end.field-0.0 due refused in
     search (rules, unless)
 
+pub returns-in_err-end-clause-unread : goal.returns-in_err-end-clause-unread
+returns-in_err-end-clause-unread c = items_read_due c.args.text.now _ (returns-in_err-end-clause-refused c)
+
 pub returns-then-end-text-clause-found : goal.returns-then-end-text-clause-found
 returns-then-end-text-clause-found c =
     rw c.of.ensures (IsItemText-slot _ _ _ _ _ c.slots.invariant.led c.in_ok-end.ensures.read c.if-end-text.true)
@@ -30,6 +34,11 @@ pub returns-then-end-text-clause-only : goal.returns-then-end-text-clause-only
 returns-then-end-text-clause-only c items is =
     let found = IsItemText-slot _ _ _ _ _ c.slots.invariant.led c.in_ok-end.ensures.read c.if-end-text.true in
     inl (ap Ok (c.of.ensures ∙ IsItemText-one c.args.text.now c.read_slot.new.items.items items found is))
+
+pub returns-then-end-text-clause-read : goal.returns-then-end-text-clause-read
+returns-then-end-text-clause-read c =
+    let found = IsItemText-slot _ _ _ _ _ c.slots.invariant.led c.in_ok-end.ensures.read c.if-end-text.true in
+    rw c.of.ensures (items_read_complete c.args.text.now c.read_slot.new.items.items found)
 
 pub returns-then-end-text-clause-room : goal.returns-then-end-text-clause-room
 returns-then-end-text-clause-room c =
@@ -53,6 +62,9 @@ returns-then-text-end-ne44-clause-only c items is =
 pub returns-then-text-end-ne44-clause-refused_only : goal.returns-then-text-end-ne44-clause-refused_only
 returns-then-text-end-ne44-clause-refused_only c octets refused =
     IsUnless-refused c.args.text.now octets c.refused_at.result (returns-then-text-end-ne44-clause-refused c) refused
+
+pub returns-then-text-end-ne44-clause-unread : goal.returns-then-text-end-ne44-clause-unread
+returns-then-text-end-ne44-clause-unread c = items_read_due c.args.text.now _ (returns-then-text-end-ne44-clause-refused c)
 
 pub slots-preserved : goal.slots-preserved
 slots-preserved c =

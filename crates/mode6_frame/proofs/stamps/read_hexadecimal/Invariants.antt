@@ -1,0 +1,12 @@
+use Rattle.std.proofs.Common.{◌≡◌, ◌<◌, ◌^◌, true, take}
+use Rattle.std.specs.List.{list_all}
+use Rattle.std.specs.Str.Parse.{digits_value}
+use Rattle.hex.specs.Hex.{is_hex_digit}
+use Rattle.mode6_frame.proofs.stamps.read_hexadecimal.Given as goal
+
+abbrev pub invariant-loop-digit : goal.invariant-loop-digit
+invariant-loop-digit l = record {
+  digits : list_all is_hex_digit (take l.digit-index l.digits) ≡ true;
+  value : l.number ≡ digits_value 16 (take l.digit-index l.digits);
+  small : l.number < 16 ^ l.digit-index;
+}
