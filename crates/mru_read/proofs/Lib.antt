@@ -1,0 +1,9 @@
+pub mod EndingLemmas
+pub mod GramLemmas
+pub mod LongestLemmas
+pub mod MeasureLemmas
+pub mod PageLemmas
+pub mod SizeLemmas
+pub mod StartLemmas
+pub mod TakingLemmas
+pub mod WalkLemmas
