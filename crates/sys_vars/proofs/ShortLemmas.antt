@@ -32,7 +32,7 @@ names-short System = refl
 names-short (Peer peer) = refl
 
 -- a value has two octets more in quotes
-value-short : (name value : List ℕ) → length (value_octets (written_value name value)) ≤ length value + 2
+pub value-short : (name value : List ℕ) → length (value_octets (written_value name value)) ≤ length value + 2
 value-short name value = by_quotes (has_quotes name value)
   where
     by_quotes : (quoted : Bool) → length (value_octets (if quoted then Quoted value else Bare value)) ≤ length value + 2

@@ -4,6 +4,7 @@ use Rattle.std.proofs.Common.{◌≡◌, ◌+◌, ◌-◌, ◌<◌, ◌≤◌, �
 use Rattle.std.specs.Prelude.{codes}
 use Rattle.std.specs.Fmt.{digits}
 use Rattle.hex.specs.Hex.{encode_with}
+use Rattle.net_addr.specs.declared.addr.Addr.{Addr}
 use Rattle.net_addr.specs.declared.addr.Ip.TheVariants.{V4}
 use Rattle.mode6_frame.specs.declared.message.Head.{Head}
 use Rattle.mode6_frame.specs.declared.message.TheConstants.{MAX_BODY}
@@ -17,6 +18,7 @@ use Rattle.sys_vars.specs.declared.system.TheConstants.{PRECISION}
 use Rattle.sys_vars.specs.declared.published.Record.{Record}
 use Rattle.sys_vars.specs.declared.asked.What.{What}
 use Rattle.sys_vars.specs.declared.asked.What.TheVariants.{Status, Vars}
+use Rattle.sys_vars.specs.declared.context.Context.{Context}
 use Rattle.sys_vars.specs.Names.{name_of, system_names, peer_names}
 use Rattle.sys_vars.specs.Opening.{opening_system}
 use Rattle.access_rules.specs.Rates.{plain_rate}
@@ -24,9 +26,10 @@ use Rattle.fixed_time.specs.declared.time.TheConstants.{MAX_DISPERSION}
 use Rattle.net_addr.specs.Spelling.{ip_text}
 use Rattle.mode6_frame.specs.Cuts.{parts_cut, tag_item}
 use Rattle.sys_vars.specs.Status.{peer_status_of, system_status_of}
-use Rattle.sys_vars.specs.Texts.{ms_text, signed_ms_text, ppm_text, stamp_text, reach_text, refid_text, measure_text, measures_text}
+use Rattle.mode6_frame.specs.Stamps.{stamp_text}
+use Rattle.sys_vars.specs.Texts.{ms_text, signed_ms_text, ppm_text, reach_text, refid_text, measure_text, measures_text}
 use Rattle.sys_vars.specs.Variables.{items_of, variable_of, system_texts, peer_texts}
-use Rattle.sys_vars.specs.Answers.{grams_for}
+use Rattle.sys_vars.specs.Answers.{grams_for, nonce_grams}
 
 PRECISION-is : PRECISION ≡ negsuc 19
 PRECISION-is = refl
@@ -234,27 +237,41 @@ head sequence assoc = record {
 abbrev named : List ℕ → What
 named numbers = Vars numbers
 
+-- what an answer needs to know beside the record, and where a request comes from: these answers depend on neither
+abbrev context : Context
+context = record { salt = record { 0 = replicate 16 0 }; origin = record { 0 = 0x83aa7e8000000000 }; moment = 2 ^ 32 }
+
+abbrev at : Addr
+at = record { ip = V4 (10 ∷ 0 ∷ 0 ∷ 1 ∷ []); port = 123 }
+
+-- a nonce is told with the status of the system, whatever the association
+nonce-answer : nonce_grams (opening_with []) (head 1 9) (codes "83aa7e810000000001234567") ≡
+    (0x16 ∷ 0x82 ∷ 0x00 ∷ 0x01 ∷ 0xc0 ∷ 0x11 ∷ 0x00 ∷ 0x09 ∷ 0x00 ∷ 0x00 ∷ 0x00 ∷ 0x20 ∷
+    codes "nonce=83aa7e810000000001234567\r\n") ∷ []
+unfolding parts_cut head_of
+nonce-answer = refl
+
 -- status c011; the body is `stratum=16`, carriage return and line feed
-stratum-answer : grams_for (opening_with []) (head 1 0) (named (2 ∷ [])) ≡
+stratum-answer : grams_for (opening_with []) (head 1 0) context at (named (2 ∷ [])) ≡
     (0x16 ∷ 0x82 ∷ 0x00 ∷ 0x01 ∷ 0xc0 ∷ 0x11 ∷ 0x00 ∷ 0x00 ∷ 0x00 ∷ 0x00 ∷ 0x00 ∷ 0x0c ∷
     codes "stratum=16\r\n") ∷ []
 unfolding parts_cut system_names system_texts variable_of digits head_of
 stratum-answer = refl
 
 -- code 5, an unknown name
-name-answer : grams_for (opening_with []) (head 1 0) (named (2 ∷ 255 ∷ [])) ≡
+name-answer : grams_for (opening_with []) (head 1 0) context at (named (2 ∷ 255 ∷ [])) ≡
     (0x16 ∷ 0xc2 ∷ 0x00 ∷ 0x01 ∷ 0x05 ∷ 0x00 ∷ 0x00 ∷ 0x00 ∷ 0x00 ∷ 0x00 ∷ 0x00 ∷ 0x00 ∷ []) ∷ []
 unfolding system_names head_of
 name-answer = refl
 
 -- code 4, an unknown association, and its number
-association-answer : grams_for (opening_with []) (head 1 9) (named (2 ∷ [])) ≡
+association-answer : grams_for (opening_with []) (head 1 9) context at (named (2 ∷ [])) ≡
     (0x16 ∷ 0xc2 ∷ 0x00 ∷ 0x01 ∷ 0x04 ∷ 0x00 ∷ 0x00 ∷ 0x09 ∷ 0x00 ∷ 0x00 ∷ 0x00 ∷ 0x00 ∷ []) ∷ []
 unfolding head_of
 association-answer = refl
 
 -- all variables of the system that a server opens with
-system-answer : grams_for (opening_with []) (head 1 0) (named []) ≡
+system-answer : grams_for (opening_with []) (head 1 0) context at (named []) ≡
     (0x16 ∷ 0x82 ∷ 0x00 ∷ 0x01 ∷ 0xc0 ∷ 0x11 ∷ 0x00 ∷ 0x00 ∷ 0x00 ∷ 0x00 ∷ 0x00 ∷ 0xf4 ∷
     codes "version=\"ntpd profile 1\", leap=3, stratum=16, precision=-20, rootdelay=0.000000, rootdisp=16000.000000, refid=INIT, reftime=0x00000000.00000000, peer=0, tc=6, mintc=3, offset=0.000000, frequency=0.000000, sys_jitter=0.000000, state=1, epoch=0\r\n") ∷ []
 unfolding parts_cut system_names system_texts variable_of ms_text signed_ms_text ppm_text stamp_text refid_text encode_with digits head_of
@@ -294,19 +311,19 @@ unheard = record {
 }
 
 -- the status of the system tells each peer's: association 1 with 8000
-pairs-answer : grams_for (opening_with (unheard ∷ [])) (head 1 0) Status ≡
+pairs-answer : grams_for (opening_with (unheard ∷ [])) (head 1 0) context at Status ≡
     (0x16 ∷ 0x82 ∷ 0x00 ∷ 0x01 ∷ 0xc0 ∷ 0x11 ∷ 0x00 ∷ 0x00 ∷ 0x00 ∷ 0x00 ∷ 0x00 ∷ 0x04 ∷ 0x00 ∷ 0x01 ∷ 0x80 ∷ 0x00 ∷ []) ∷ []
 unfolding head_of
 pairs-answer = refl
 
 -- that of the peer has its own word and no body
-peer-status-answer : grams_for (opening_with (unheard ∷ [])) (head 1 1) Status ≡
+peer-status-answer : grams_for (opening_with (unheard ∷ [])) (head 1 1) context at Status ≡
     (0x16 ∷ 0x82 ∷ 0x00 ∷ 0x01 ∷ 0x80 ∷ 0x00 ∷ 0x00 ∷ 0x01 ∷ 0x00 ∷ 0x00 ∷ 0x00 ∷ 0x00 ∷ []) ∷ []
 unfolding head_of
 peer-status-answer = refl
 
 -- all variables of the peer take two datagrams, with the epoch as tag
-peer-answer : grams_for (opening_with (unheard ∷ [])) (head 2 1) (named []) ≡
+peer-answer : grams_for (opening_with (unheard ∷ [])) (head 2 1) context at (named []) ≡
     (0x16 ∷ 0xa2 ∷ 0x00 ∷ 0x02 ∷ 0x80 ∷ 0x00 ∷ 0x00 ∷ 0x01 ∷ 0x00 ∷ 0x00 ∷ 0x01 ∷ 0x98 ∷
     codes "resp=0x0000000000000000, srcadr=10.0.0.1, srcport=123, hmode=3, pmode=0, hpoll=6, ppoll=0, leap=3, stratum=16, precision=0, rootdelay=0.000000, rootdisp=0.000000, refid=INIT, reftime=0x00000000.00000000, rec=0x00000000.00000000, reach=000, keyid=0, offset=0.000000, delay=0.000000, dispersion=16000.000000, jitter=0.000000, filtdelay=0.000000 0.000000 0.000000 0.000000 0.000000 0.000000 0.000000 0.000000,\r\n")
     ∷ (0x16 ∷ 0x82 ∷ 0x00 ∷ 0x02 ∷ 0x80 ∷ 0x00 ∷ 0x00 ∷ 0x01 ∷ 0x01 ∷ 0x98 ∷ 0x00 ∷ 0xdf ∷

@@ -20,7 +20,8 @@ use Rattle.net_addr.specs.Addresses.{IsIp}
 use Rattle.net_addr.specs.Spelling.{ip_text}
 use Rattle.net_addr.proofs.GroupLemmas.{AllSegments-segments_of}
 use Rattle.mode6_frame.specs.Items.{is_name_octet, is_white, AreNameOctets}
-use Rattle.sys_vars.specs.Texts.{IsWord, six_digits, millionths_text, stamp_text, reach_text}
+use Rattle.mode6_frame.specs.Stamps.{stamp_text}
+use Rattle.sys_vars.specs.Texts.{IsWord, six_digits, millionths_text, reach_text}
 use Rattle.sys_vars.specs.Variables.{is_value_octet, IsPlainValue}
 use Rattle.sys_vars.proofs.ShortLemmas.{both}
 

@@ -1,6 +1,9 @@
 pub mod Opening
 pub mod Names
+pub mod Contexts
 pub mod Status
 pub mod Texts
 pub mod Variables
 pub mod Answers
+pub use Rattle.mode6_frame.specs.Stamps
+pub use Rattle.mode6_nonce.specs.Nonces

@@ -1,6 +1,6 @@
 -- The texts of numbers, times and samples as values of variables (RFC 5905, section 6, for the times; the forms are our own rule).
 use Rattle.std.specs.Prelude.{ℕ, ◌<◌, ◌+◌, ◌*◌, ◌/◌, ◌%◌, ◌^◌, ◌==◌, not, ◌&&◌, ℤ, pos, Bool, if◌then◌else◌, Option, Some, None, List, [], ◌∷◌, ◌++◌, length, nat_lt, codes, decimal, unsigned_abs}
-use Rattle.std.specs.Int.{is_in_range, is_negative, to_be_bytes, w32}
+use Rattle.std.specs.Int.{is_in_range, is_negative}
 use Rattle.std.specs.Char.{is_ascii_alphanumeric}
 use Rattle.std.specs.List.{list_all, before_first, join_by}
 use Rattle.std.specs.Net.Text.{ipv4_text}
@@ -53,11 +53,6 @@ unfoldable pub ppm_text : ℤ → List ℕ
 ppm_text frequency =
     minus_sign frequency (frequency_millionths (unsigned_abs frequency))
     ++ millionths_text (frequency_millionths (unsigned_abs frequency))
-
--- the text of a timestamp of 32.32 seconds: eight hexadecimal digits of the seconds, a point, and eight of the fraction
-unfoldable pub stamp_text : ℕ → List ℕ
-stamp_text time =
-    codes "0x" ++ encode_lower (to_be_bytes w32 (time / 2 ^ 32)) ++ codes "." ++ encode_lower (to_be_bytes w32 (time % 2 ^ 32))
 
 -- the text of a reach register: three octal digits
 unfoldable pub reach_text : ℕ → List ℕ

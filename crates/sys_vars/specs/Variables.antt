@@ -15,7 +15,8 @@ use Rattle.sys_vars.specs.declared.subject.Subject.TheVariants.{System, Peer}
 use Rattle.sys_vars.specs.declared.variables.VarsFault.{VarsFault}
 use Rattle.sys_vars.specs.declared.variables.VarsFault.TheVariants.{UnknownAssociation, UnknownName}
 use Rattle.sys_vars.specs.Names.{system_names, peer_names}
-use Rattle.sys_vars.specs.Texts.{ms_text, signed_ms_text, ppm_text, stamp_text, reach_text, refid_text, state_number, measures_text}
+use Rattle.mode6_frame.specs.Stamps.{stamp_text}
+use Rattle.sys_vars.specs.Texts.{ms_text, signed_ms_text, ppm_text, reach_text, refid_text, state_number, measures_text}
 
 -- the texts of the system variables, in the order of their numbers
 unfoldable pub system_texts : Record → List (List ℕ)

@@ -58,6 +58,8 @@ pub enum What {
     Status,
     /// These variables, or all where none is named.
     Vars(NameNumbers),
+    /// A nonce for the sender.
+    Nonce,
     /// What is refused with this error code (RFC 9327, section 3.4).
     Bad(u8),
 }

@@ -1,10 +1,11 @@
-//! What a server publishes of itself: the system's values, those of its peers and its clock, as one
-//! record; and its answers to control requests for status and variables (RFC 9327).
+//! What a server publishes of itself: the system's values, those of its peers and its clock, as
+//! one record; and its answers to control requests for status, variables and a nonce (RFC 9327).
 //!
-//! Layer 4. Stands on: `access_rules`, `clock_filter`, `discipline`, `mode6_frame`, `ntp_packet`, `edge_traits`, `net_addr`, `fixed_time`.
+//! Layer 4. Stands on: `access_rules`, `clock_filter`, `discipline`, `mode6_nonce`,
+//! `mode6_frame`, `ntp_packet`, `edge_traits`, `net_addr`, `fixed_time`.
 //! Promises: a server opens with one record, given by its values; an answer is a function of one
-//! record and the request, and comes unless memory is wanting; the text of each variable is given by
-//! its value.
+//! record, the request and its context, and comes unless memory is wanting; the text of each
+//! variable is given by its value.
 #![tactic(auto)]
 
 pub mod answer;

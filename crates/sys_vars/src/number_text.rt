@@ -3,7 +3,8 @@ ghost use Rattle.std.specs.Fmt.{signed_decimal};
 ghost use Rattle.hex.specs.Hex.{encode_lower};
 ghost use Rattle.std.specs.Int.{to_be_bytes, w32};
 ghost use Rattle.sys_vars.specs.Variables.{IsPlainValue};
-ghost use Rattle.sys_vars.specs.Texts.{IsWord, frequency_millionths, millionths_text, ms_text, nanoseconds, ppm_text, reach_text, signed_ms_text, six_digits, stamp_text};
+ghost use Rattle.mode6_frame.specs.Stamps.{stamp_text};
+ghost use Rattle.sys_vars.specs.Texts.{IsWord, frequency_millionths, millionths_text, ms_text, nanoseconds, ppm_text, reach_text, signed_ms_text, six_digits};
 
 use fixed_time::{Ntp64, Span};
 use itoa::Buffer;
@@ -168,7 +169,7 @@ fn digit(number: u64) -> u8
 }
 
 /// A timestamp in hexadecimal digits: the seconds, a point, and the fraction.
-#[tactic(auto, unfolding(crate::specs::Texts::stamp_text))]
+#[tactic(auto, unfolding(mode6_frame::specs::Stamps::stamp_text))]
 pub(crate) fn stamp(alloc: Global, time: Ntp64) -> Result<Text, AllocError>
     ensures value { IfOk result (λ text. text ≡ stamp_text time.0) }
     ensures short { IfOk result (λ text. length text ≤ 19) }

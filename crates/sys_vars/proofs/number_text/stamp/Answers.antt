@@ -1,6 +1,6 @@
 use Rattle.std.proofs.Common.{◌≡◌, sym, subst, rules}
 use Rattle.sys_vars.specs.Variables.{IsPlainValue}
-use Rattle.sys_vars.specs.Texts.{stamp_text}
+use Rattle.mode6_frame.specs.Stamps.{stamp_text}
 use Rattle.sys_vars.proofs.ValueLemmas.{IsPlainValue-names, stamp-names}
 use Rattle.sys_vars.proofs.number_text.stamp.Goals as goal
 
