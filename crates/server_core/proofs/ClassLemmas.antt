@@ -14,16 +14,16 @@ use Rattle.ntp_trailer.specs.declared.packet.ReadFault.TheVariants.{BadHeader, B
 use Rattle.ntp_trailer.specs.Packets.{IsJudgedPacket, IsUnreadable}
 use Rattle.mode6_frame.specs.declared.message.FrameFault.{FrameFault}
 use Rattle.mode6_frame.specs.Frames.{FrameParts, IsFrame, frame_fault_of}
-use Rattle.sys_vars.specs.declared.asked.Asked.{Asked}
 use Rattle.sys_vars.specs.declared.context.Context.{Context}
 use Rattle.ntp_packet.specs.declared.leap_version_mode.TheConstants.{MODE_CLIENT, MODE_CONTROL}
 use Rattle.server_core.specs.declared.class.Ask.{Ask}
 use Rattle.server_core.specs.declared.class.Class.{Class}
-use Rattle.server_core.specs.declared.class.Class.TheVariants.{Silent, Time, Look}
+use Rattle.server_core.specs.declared.class.Class.TheVariants.{Silent, Time, Look, Read}
 use Rattle.server_core.specs.declared.class.Unheard.{Unheard}
-use Rattle.server_core.specs.declared.class.Unheard.TheVariants.{Packet, Trailer, Frame, Unserved, NotRequest}
-use Rattle.server_core.specs.Class.{IsClass, IsAskOf, IsTimeRequest, unheard_by}
-use Rattle.server_core.specs.Control.{IsRequest, IsAskedOf, frame_number, has_answer_bit}
+use Rattle.server_core.specs.declared.class.Unheard.TheVariants.{Packet, Trailer, Frame, Unserved, NotRequest, BadNonce}
+use Rattle.server_core.specs.Class.{IsClass, IsControl, IsAskOf, IsTimeRequest, unheard_by}
+use Rattle.server_core.specs.Reads.{IsRequestClass}
+use Rattle.server_core.specs.Control.{IsRequest, frame_number, has_answer_bit}
 use Rattle.server_core.proofs.ControlLemmas.{frame_mode}
 
 -- no octets have no mode of a client
@@ -51,7 +51,9 @@ only_empty octets from keys context empty (Silent (Frame number)) refused = absu
 only_empty octets from keys context empty (Silent (Unserved mode)) unserved = absurd (unserved.0 empty)
 only_empty octets from keys context empty (Silent NotRequest) answer = absurd (control_is_some octets (frame_mode octets answer.0 answer.1) empty)
 only_empty octets from keys context empty (Time ask) request = absurd (client_is_some octets request.client empty)
-only_empty octets from keys context empty (Look asked) look = absurd (control_is_some octets (frame_mode octets look.0 look.1.frame) empty)
+only_empty octets from keys context empty (Silent BadNonce) is = absurd (control_is_some octets (frame_mode octets is.0 is.1.frame) empty)
+only_empty octets from keys context empty (Look asked) is = absurd (control_is_some octets (frame_mode octets is.0 is.1.frame) empty)
+only_empty octets from keys context empty (Read ask) is = absurd (control_is_some octets (frame_mode octets is.0 is.1.frame) empty)
 
 -- what is of another mode is that and nothing else
 pub only_unserved : (octets : List ℕ) (from : Addr) (keys : List Key) (context : Context) (mode : ℕ) → octets ≢ [] → mode ≡ mode_of octets → mode ≢ MODE_CLIENT → mode ≢ MODE_CONTROL
@@ -63,7 +65,9 @@ only_unserved octets from keys context mode some is other no_control (Silent (Fr
 only_unserved octets from keys context mode some is other no_control (Silent (Unserved its)) unserved = ap (λ m. Silent (Unserved m)) (is ∙ sym unserved.1)
 only_unserved octets from keys context mode some is other no_control (Silent NotRequest) answer = absurd (no_control (is ∙ frame_mode octets answer.0 answer.1))
 only_unserved octets from keys context mode some is other no_control (Time ask) request = absurd (other (is ∙ request.client))
+only_unserved octets from keys context mode some is other no_control (Silent BadNonce) look = absurd (no_control (is ∙ frame_mode octets look.0 look.1.frame))
 only_unserved octets from keys context mode some is other no_control (Look asked) look = absurd (no_control (is ∙ frame_mode octets look.0 look.1.frame))
+only_unserved octets from keys context mode some is other no_control (Read ask) look = absurd (no_control (is ∙ frame_mode octets look.0 look.1.frame))
 
 -- a class of a client's packet: why it is no packet, or the request that it is
 abbrev IsClientClass : List ℕ → Addr → List Key → Class → Type 0
@@ -80,7 +84,9 @@ client_class octets from keys context client (Silent (Frame number)) refused = a
 client_class octets from keys context client (Silent (Unserved mode)) unserved = absurd (unserved.2 (unserved.1 ∙ client))
 client_class octets from keys context client (Silent NotRequest) answer = absurd (not_both octets client (frame_mode octets answer.0 answer.1))
 client_class octets from keys context client (Time ask) request = inr (ask, request, refl)
+client_class octets from keys context client (Silent BadNonce) look = absurd (not_both octets client (frame_mode octets look.0 look.1.frame))
 client_class octets from keys context client (Look asked) look = absurd (not_both octets client (frame_mode octets look.0 look.1.frame))
+client_class octets from keys context client (Read ask) look = absurd (not_both octets client (frame_mode octets look.0 look.1.frame))
 
 -- what is no packet is silent
 IsClass-unreadable : (octets : List ℕ) (from : Addr) (keys : List Key) (context : Context) (fault : ReadFault) → mode_of octets ≡ MODE_CLIENT → IsUnreadable octets fault → IsClass octets from keys context (Silent (unheard_by fault))
@@ -139,39 +145,49 @@ only_time octets from keys context judged ask client one none is class is_class 
         let of_judged = subst (λ (j : JudgedPacket). IsAskOf j.header from j.auth other) (sym same) request.is in
         ap Time (ask_same judged.header from judged.auth ask other is of_judged) ∙ sym its
 
--- a class of a control message: what is refused, what is no request, or what it asks for
-abbrev pub IsControlClass : List ℕ → Addr → Class → Type 0
-IsControlClass octets from class =
+-- a class of a control message: what is refused, what is no request, or what a request is
+abbrev pub IsControlClass : List ℕ → Addr → Context → Class → Type 0
+IsControlClass octets from context class =
     ((fault : FrameFault) × (frame_fault_of octets ≡ Some fault) × (class ≡ Silent (Frame (frame_number fault))))
     ⊎ (((f : FrameParts) × IsFrame octets f × (has_answer_bit f ≡ true) × (class ≡ Silent NotRequest))
-    ⊎ ((f : FrameParts) × (asked : Asked) × IsRequest octets f × IsAskedOf f from asked × (class ≡ Look asked)))
+    ⊎ IsControl octets from context class)
 
 -- a control message has one of these
-pub control_class : (octets : List ℕ) (from : Addr) (keys : List Key) (context : Context) → mode_of octets ≡ MODE_CONTROL → (class : Class) → IsClass octets from keys context class → IsControlClass octets from class
+pub control_class : (octets : List ℕ) (from : Addr) (keys : List Key) (context : Context) → mode_of octets ≡ MODE_CONTROL → (class : Class) → IsClass octets from keys context class → IsControlClass octets from context class
 control_class octets from keys context control (Silent (Packet number)) (inl empty) = absurd (control_is_some octets control empty.0)
 control_class octets from keys context control (Silent (Packet number)) (inr refused) = absurd (not_both octets refused.0 control)
 control_class octets from keys context control (Silent (Trailer number)) long = absurd (not_both octets long.0 control)
 control_class octets from keys context control (Silent (Frame number)) (_, (fault, refused, is)) = inl (fault, refused, ap (λ n. Silent (Frame n)) is)
 control_class octets from keys context control (Silent (Unserved mode)) unserved = absurd (unserved.3 (unserved.1 ∙ control))
 control_class octets from keys context control (Silent NotRequest) (f, frame, answer) = inr (inl (f, frame, answer, refl))
+control_class octets from keys context control (Silent BadNonce) is = inr (inr is)
 control_class octets from keys context control (Time ask) request = absurd (not_both octets request.client control)
-control_class octets from keys context control (Look asked) (f, request, is) = inr (inr (f, asked, request, is, refl))
+control_class octets from keys context control (Look asked) is = inr (inr is)
+control_class octets from keys context control (Read ask) is = inr (inr is)
 
 -- what is a request is that and nothing else
-pub only_look : (octets : List ℕ) (from : Addr) (keys : List Key) (context : Context) (f : FrameParts) (asked : Asked) → mode_of octets ≡ MODE_CONTROL → frame_fault_of octets ≡ None → ((other : FrameParts) → IsFrame octets other → f ≡ other) → has_answer_bit f ≡ false
-    → ((other : Asked) → IsAskedOf f from other → asked ≡ other)
-    → (class : Class) → IsClass octets from keys context class → Look asked ≡ class
-only_look octets from keys context f asked control good one request one_asked class is = by_class (control_class octets from keys context control class is)
+pub only_request : (octets : List ℕ) (from : Addr) (keys : List Key) (context : Context) (f : FrameParts) (it : Class) → mode_of octets ≡ MODE_CONTROL → frame_fault_of octets ≡ None → ((other : FrameParts) → IsFrame octets other → f ≡ other) → has_answer_bit f ≡ false
+    → ((other : Class) → IsRequestClass f from context other → it ≡ other)
+    → (class : Class) → IsClass octets from keys context class → it ≡ class
+only_request octets from keys context f it control good one request one_class class is = by_class (control_class octets from keys context control class is)
   where
-    by_class : IsControlClass octets from class → Look asked ≡ class
+    by_class : IsControlClass octets from context class → it ≡ class
     by_class (inl (fault, refused, _)) = absurd (cc (good, refused))
     by_class (inr (inl (g, frame, answer, _))) =
         let same : f ≡ g = one g frame in
         let set : has_answer_bit f ≡ true = ap (λ (h : FrameParts). has_answer_bit h) same ∙ answer in
         absurd (cc (request, set))
-    by_class (inr (inr (g, other, other_request, is_other, its))) =
+    by_class (inr (inr (g, other_request, is_other))) =
         let same : f ≡ g = one g other_request.frame in
-        ap Look (one_asked other (subst (λ (h : FrameParts). IsAskedOf h from other) (sym same) is_other)) ∙ sym its
+        one_class class (subst (λ (h : FrameParts). IsRequestClass h from context class) (sym same) is_other)
+
+-- a request of this class is that, whatever the keys
+pub request_class : (octets : List ℕ) (from : Addr) (keys : List Key) (context : Context) (f : FrameParts) (class : Class) → IsRequest octets f → IsRequestClass f from context class → IsClass octets from keys context class
+request_class octets from keys context f (Silent BadNonce) request is = (f, request, is)
+request_class octets from keys context f (Silent _) request is = absurd is
+request_class octets from keys context f (Time ask) request is = absurd is
+request_class octets from keys context f (Look asked) request is = (f, request, is)
+request_class octets from keys context f (Read ask) request is = (f, request, is)
 
 -- a test of emptiness that fails says that there is something
 pub not_empty : (octets : List ℕ) (answer : Bool) → answer ≡ (length octets == 0) → answer ≡ false → octets ≢ []

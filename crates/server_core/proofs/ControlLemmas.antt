@@ -15,12 +15,12 @@ use Rattle.mode6_frame.specs.Refusals.{IsRefusedAt, refused_nowhere}
 use Rattle.sys_vars.specs.declared.asked.TheConstants.{MAX_NAMES}
 use Rattle.sys_vars.specs.declared.asked.Asked.{Asked}
 use Rattle.sys_vars.specs.declared.asked.What.{What}
-use Rattle.sys_vars.specs.declared.asked.What.TheVariants.{Status, Vars, Bad}
+use Rattle.sys_vars.specs.declared.asked.What.TheVariants.{Status, Vars, Nonce, Bad}
 use Rattle.sys_vars.specs.declared.names.TheConstants.{UNKNOWN_NAME}
 use Rattle.ntp_packet.specs.declared.leap_version_mode.TheConstants.{MODE_CONTROL}
 use Rattle.mode6_frame.specs.declared.errors.TheConstants.{BAD_FORMAT, BAD_OPERATION}
-use Rattle.mode6_frame.specs.declared.operations.TheConstants.{OP_READ_STATUS, OP_READ_VARIABLES}
-use Rattle.server_core.specs.Control.{IsNumberAsked, AreNumbersAsked, IsWhat, IsHeadOf, IsAskedOf}
+use Rattle.mode6_frame.specs.declared.operations.TheConstants.{OP_READ_STATUS, OP_READ_VARIABLES, OP_READ_NONCE}
+use Rattle.server_core.specs.Control.{HasItems, IsUnservedOperation, IsNumberAsked, AreNumbersAsked, IsWhat, IsHeadOf, IsAskedOf}
 
 -- one more item, and one more number
 pub AreNumbersAsked-push : (assoc : ℕ) (items : List Item) (numbers : List ℕ) (item : Item) (number : ℕ) → AreNumbersAsked assoc items numbers → IsNumberAsked assoc item.name number
@@ -97,33 +97,59 @@ pub only_variables : (f : FrameParts) (items : List Item) (numbers : List ℕ) �
     → ((others : List Item) → IsItemText f.body others → items ≡ others) → AreNumbersAsked f.assoc items numbers
     → (what : What) → IsWhat f what → Vars numbers ≡ what
 only_variables f items numbers reads text one are Status status = absurd (omega (arith, reads, status))
+only_variables f items numbers reads text one are Nonce nonce = absurd (omega (arith, reads, nonce))
 only_variables f items numbers reads text one are (Vars its) (_, (others, other_text, other_are)) =
     let same = one others other_text in
     ap Vars (numbers_same f.assoc items numbers its are (subst (λ (all : List Item). AreNumbersAsked f.assoc all its) (sym same) other_are))
 only_variables f items numbers reads text one are (Bad code) (inl (_, (place, refused), _)) = absurd (refused_nowhere IsItemText f.body items place text refused)
-only_variables f items numbers reads text one are (Bad code) (inr (_, other, _)) = absurd (other reads)
+only_variables f items numbers reads text one are (Bad code) (inr (other, _)) = absurd (other.variables reads)
 
--- a request whose body is none is refused so and not otherwise
-pub only_bad_format : (f : FrameParts) (place : ℕ) → f.opcode ≡ OP_READ_VARIABLES → IsRefusedAt IsItemText f.body place
+-- an operation that has items in its requests is served
+served_items : (opcode : ℕ) → HasItems opcode → ¬ IsUnservedOperation opcode
+served_items opcode (inl reads) other = other.variables reads
+served_items opcode (inr reads) other = other.list reads
+
+-- and is neither the read of a status nor that of a nonce
+no_status : (opcode : ℕ) → HasItems opcode → opcode ≢ OP_READ_STATUS
+no_status opcode (inl reads) status = omega (arith, reads, status)
+no_status opcode (inr reads) status = omega (arith, reads, status)
+
+no_nonce : (opcode : ℕ) → HasItems opcode → opcode ≢ OP_READ_NONCE
+no_nonce opcode (inl reads) nonce = omega (arith, reads, nonce)
+no_nonce opcode (inr reads) nonce = omega (arith, reads, nonce)
+
+-- a request whose body is no text of items is refused so and not otherwise
+pub only_bad_format : (f : FrameParts) (place : ℕ) → HasItems f.opcode → IsRefusedAt IsItemText f.body place
     → (what : What) → IsWhat f what → Bad BAD_FORMAT ≡ what
-only_bad_format f place reads refused Status status = absurd (omega (arith, reads, status))
-only_bad_format f place reads refused (Vars its) (_, (items, text, _)) = absurd (refused_nowhere IsItemText f.body items place text refused)
-only_bad_format f place reads refused (Bad code) (inl (_, _, is)) = ap Bad (sym is)
-only_bad_format f place reads refused (Bad code) (inr (_, other, _)) = absurd (other reads)
+only_bad_format f place has refused Status status = absurd (no_status f.opcode has status)
+only_bad_format f place has refused Nonce nonce = absurd (no_nonce f.opcode has nonce)
+only_bad_format f place has refused (Vars its) (_, (items, text, _)) = absurd (refused_nowhere IsItemText f.body items place text refused)
+only_bad_format f place has refused (Bad code) (inl (_, _, is)) = ap Bad (sym is)
+only_bad_format f place has refused (Bad code) (inr (other, _)) = absurd (served_items f.opcode has other)
 
 -- nor a request of another operation
-pub only_bad_operation : (f : FrameParts) → f.opcode ≢ OP_READ_STATUS → f.opcode ≢ OP_READ_VARIABLES → (what : What) → IsWhat f what → Bad BAD_OPERATION ≡ what
-only_bad_operation f other another Status status = absurd (other status)
-only_bad_operation f other another (Vars its) is = absurd (another is.0)
-only_bad_operation f other another (Bad code) (inl is) = absurd (another is.0)
-only_bad_operation f other another (Bad code) (inr (_, _, is)) = ap Bad (sym is)
+pub only_bad_operation : (f : FrameParts) → IsUnservedOperation f.opcode → (what : What) → IsWhat f what → Bad BAD_OPERATION ≡ what
+only_bad_operation f other Status status = absurd (other.status status)
+only_bad_operation f other Nonce nonce = absurd (other.nonce nonce)
+only_bad_operation f other (Vars its) is = absurd (other.variables is.0)
+only_bad_operation f other (Bad code) (inl is) = absurd (served_items f.opcode is.0 other)
+only_bad_operation f other (Bad code) (inr (_, is)) = ap Bad (sym is)
 
 -- a request for a status asks for nothing else
 pub only_status : (f : FrameParts) → f.opcode ≡ OP_READ_STATUS → (what : What) → IsWhat f what → Status ≡ what
 only_status f reads Status is = refl
+only_status f reads Nonce nonce = absurd (omega (arith, reads, nonce))
 only_status f reads (Vars its) is = absurd (omega (arith, reads, is.0))
-only_status f reads (Bad code) (inl is) = absurd (omega (arith, reads, is.0))
-only_status f reads (Bad code) (inr is) = absurd (is.0 reads)
+only_status f reads (Bad code) (inl is) = absurd (no_status f.opcode is.0 reads)
+only_status f reads (Bad code) (inr is) = absurd (is.0.status reads)
+
+-- nor does a request for a nonce
+pub only_nonce : (f : FrameParts) → f.opcode ≡ OP_READ_NONCE → (what : What) → IsWhat f what → Nonce ≡ what
+only_nonce f reads Status status = absurd (omega (arith, reads, status))
+only_nonce f reads Nonce is = refl
+only_nonce f reads (Vars its) is = absurd (omega (arith, reads, is.0))
+only_nonce f reads (Bad code) (inl is) = absurd (no_nonce f.opcode is.0 reads)
+only_nonce f reads (Bad code) (inr is) = absurd (is.0.nonce reads)
 
 -- a head by its parts
 abbrev head_of_parts : (version opcode sequence status assoc : ℕ) → version ≤ 7 → opcode ≤ 31 → Head
@@ -141,7 +167,7 @@ same_but_for_proofs v w o p sequence status assoc versions opcodes v_in =
     ∙ ap (λ (q : o ≤ 31). head_of_parts v o sequence status assoc x_in q) (le_prop o_in y_in)))
 
 -- a request has one head
-head_same : (f : FrameParts) (a b : Head) → IsHeadOf f a → IsHeadOf f b → a ≡ b
+pub head_same : (f : FrameParts) (a b : Head) → IsHeadOf f a → IsHeadOf f b → a ≡ b
 head_same f a b first second =
     let sequence_is : a.sequence ≡ b.sequence = first.sequence ∙ sym second.sequence in
     let status_is : a.status ≡ b.status = first.status ∙ sym second.status in
@@ -152,18 +178,22 @@ head_same f a b first second =
     ∙ same_but_for_proofs a.version b.version a.opcode b.opcode b.sequence b.status b.assoc
     (first.version ∙ sym second.version) (first.opcode ∙ sym second.opcode) a.version_in b.version_in a.opcode_in b.opcode_in
 
+-- what is asked by its parts
+abbrev asked_of_parts : Addr → Head → What → Asked
+asked_of_parts from head what = record { from = from; head = head; what = what }
+
+-- a request that asks for one thing from one address is one
+pub asked_same : (f : FrameParts) (from : Addr) (a b : Asked) → a.from ≡ from → b.from ≡ from → IsHeadOf f a.head → IsHeadOf f b.head → a.what ≡ b.what → a ≡ b
+asked_same f from a b a_from b_from a_head b_head what =
+    ap (λ (x : Addr). asked_of_parts x a.head a.what) (a_from ∙ sym b_from)
+    ∙ ap (λ (h : Head). asked_of_parts b.from h a.what) (head_same f a.head b.head a_head b_head)
+    ∙ ap (λ (w : What). asked_of_parts b.from b.head w) what
+
 -- a request asks for one thing
 pub only_asked : (f : FrameParts) (from : Addr) (head : Head) (what : What) → IsHeadOf f head → ((other : What) → IsWhat f other → what ≡ other)
     → (asked : Asked) → IsAskedOf f from asked → record { from = from; head = head; what = what } ≡ asked
 only_asked f from head what is_head one asked is =
-    let heads = head_same f head asked.head is_head is.head_is in
-    let whats = one asked.what is.what_is in
-    ap (λ (a : Addr). asked_of_parts a head what) (sym is.from_is)
-    ∙ ap (λ (h : Head). asked_of_parts asked.from h what) heads
-    ∙ ap (λ (w : What). asked_of_parts asked.from asked.head w) whats
-  where
-    asked_of_parts : Addr → Head → What → Asked
-    asked_of_parts a h w = record { from = a; head = h; what = w }
+    asked_same f from (asked_of_parts from head what) asked refl is.from_is is_head is.head_is (one asked.what is.what_is)
 
 -- a control message's mode is that of control messages
 pub frame_mode : (octets : List ℕ) (f : FrameParts) → IsFrame octets f → mode_of octets ≡ MODE_CONTROL

@@ -4,7 +4,7 @@ use Rattle.std.specs.Prelude.{MatchResult}
 use Rattle.std.proofs.lemmas.List.{append-nil}
 use Rattle.sys_vars.specs.declared.published.Record.{Record}
 use Rattle.server_core.specs.declared.op.Op.{Op}
-use Rattle.server_core.specs.declared.op.Op.TheVariants.{Publish, Arrive, Look, Sweep, Stop}
+use Rattle.server_core.specs.declared.op.Op.TheVariants.{Publish, Arrive, Look, Read, Sweep, Stop}
 use Rattle.server_core.specs.declared.step.Reply.{Reply}
 use Rattle.server_core.specs.declared.step.StepFault.{StepFault}
 use Rattle.server_core.specs.declared.step.StepFault.TheVariants.{NoMemory}
@@ -79,6 +79,7 @@ published_by-last opening [] = refl
 published_by-last opening (Publish boxed ∷ ops) = published_by-last boxed.value ops
 published_by-last opening (Arrive ask moment ∷ ops) = published_by-last opening ops
 published_by-last opening (Look asked context ∷ ops) = published_by-last opening ops
+published_by-last opening (Read ask moment ∷ ops) = published_by-last opening ops
 published_by-last opening (Sweep moment ∷ ops) = published_by-last opening ops
 published_by-last opening (Stop stop ∷ ops) = published_by-last opening ops
 

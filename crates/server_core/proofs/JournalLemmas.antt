@@ -6,7 +6,7 @@ use Rattle.std.proofs.lemmas.List.Sums.{count_by-le-length, fold-append}
 use Rattle.sys_vars.specs.declared.published.Record.{Record}
 use Rattle.server_core.specs.declared.index.Index.{Index}
 use Rattle.server_core.specs.declared.op.Op.{Op}
-use Rattle.server_core.specs.declared.op.Op.TheVariants.{Publish, Arrive, Look, Sweep, Stop}
+use Rattle.server_core.specs.declared.op.Op.TheVariants.{Publish, Arrive, Look, Read, Sweep, Stop}
 use Rattle.server_core.specs.declared.op.Stop.{Stop as Stopping}
 use Rattle.server_core.specs.declared.op.TheConstants.{MAX_ENTRIES}
 use Rattle.server_core.specs.Journals.{CanTake, IsIndexed, op_at, published_in, record_at}
@@ -116,6 +116,7 @@ IsIndexed-append ops index (Stop stop) is none room = record {
 }
 IsIndexed-append ops index (Arrive ask moment) is none room = kept-append ops index (Arrive ask moment) is none room (λ rec. refl) refl refl refl
 IsIndexed-append ops index (Look asked context) is none room = kept-append ops index (Look asked context) is none room (λ rec. refl) refl refl refl
+IsIndexed-append ops index (Read ask moment) is none room = kept-append ops index (Read ask moment) is none room (λ rec. refl) refl refl refl
 IsIndexed-append ops index (Sweep moment) is none room = kept-append ops index (Sweep moment) is none room (λ rec. refl) refl refl refl
 
 -- the record of the place that a journal keeps is the one that is published

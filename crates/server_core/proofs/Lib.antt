@@ -1,5 +1,8 @@
 pub mod ClassLemmas
 pub mod ControlLemmas
+pub mod MoveLemmas
+pub mod ReadLemmas
+pub mod ReadProps
 pub mod HistoryLemmas
 pub mod JournalLemmas
 pub mod ReplyLemmas

@@ -1,5 +1,5 @@
 -- Worked datagrams: an unsynchronized server's reply (RFC 5905, sections 7.3 and 7.4), and control messages (RFC 9327, section 2).
-use Rattle.std.proofs.Common.{◌≡◌, ℕ, ◌^◌, pos, negsuc, List, [], ◌∷◌, ◌++◌, false, refl, lit≤, inl, inr, arith}
+use Rattle.std.proofs.Common.{◌≡◌, ℕ, ◌^◌, pos, negsuc, List, [], ◌∷◌, ◌++◌, false, replicate, refl, lit≤, inl, inr, arith}
 use Rattle.fixed_time.specs.declared.time.Ntp64.{Ntp64}
 use Rattle.mac_keys.specs.declared.checking.Auth.TheVariants.{Absent, Good, Bad}
 use Rattle.mac_keys.specs.declared.keys.Algorithm.TheVariants.{Md5}
@@ -8,7 +8,9 @@ use Rattle.net_addr.specs.declared.addr.Ip.TheVariants.{V4}
 use Rattle.discipline.specs.SoftClock.{clock_time}
 use Rattle.mode6_frame.specs.declared.message.FrameFault.TheVariants.{BadCount}
 use Rattle.mode6_frame.specs.Frames.{FrameParts}
-use Rattle.sys_vars.specs.declared.asked.What.TheVariants.{Bad as Refused, Status}
+use Rattle.sys_vars.specs.declared.asked.What.TheVariants.{Bad as Refused, Nonce, Status}
+use Rattle.sys_vars.specs.declared.context.Context.{Context}
+use Rattle.net_addr.specs.declared.addr.Addr.{Addr}
 use Rattle.sys_vars.specs.Opening.{opening_record}
 use Rattle.server_core.specs.declared.class.Ask.{Ask}
 use Rattle.server_core.specs.declared.class.Unheard.TheVariants.{Packet, Frame, Unserved}
@@ -56,16 +58,23 @@ header : reply_header basis ask (2 ^ 32) (2 ^ 32) ≡ record {
 unfolding reply_header clock_time
 header = refl
 
+-- where a datagram comes from, and when
+abbrev from : Addr
+from = ask.from
+
+abbrev context : Context
+context = record { salt = record { 0 = replicate 16 0 }; origin = unix; moment = 2 ^ 32 }
+
 -- no octet is too short a packet
-nothing : IsUnheard [] (Packet 1)
+nothing : IsUnheard [] from context (Packet 1)
 nothing = inl (refl, refl)
 
 -- one octet of mode 7
-private : IsUnheard (0x27 ∷ []) (Unserved 7)
+private : IsUnheard (0x27 ∷ []) from context (Unserved 7)
 private = (λ e. absurd cc, refl, λ e. omega (arith, e), λ e. omega (arith, e))
 
 -- a request for stratum whose count says 9 octets, before 8
-miscounted : IsUnheard (0x16 ∷ 0x02 ∷ 0x00 ∷ 0x01 ∷ 0x00 ∷ 0x00 ∷ 0x00 ∷ 0x00 ∷ 0x00 ∷ 0x00 ∷ 0x00 ∷ 0x09 ∷ 0x73 ∷ 0x74 ∷ 0x72 ∷ 0x61 ∷ 0x74 ∷ 0x75 ∷ 0x6d ∷ 0x00 ∷ []) (Frame 4)
+miscounted : IsUnheard (0x16 ∷ 0x02 ∷ 0x00 ∷ 0x01 ∷ 0x00 ∷ 0x00 ∷ 0x00 ∷ 0x00 ∷ 0x00 ∷ 0x00 ∷ 0x00 ∷ 0x09 ∷ 0x73 ∷ 0x74 ∷ 0x72 ∷ 0x61 ∷ 0x74 ∷ 0x75 ∷ 0x6d ∷ 0x00 ∷ []) from context (Frame 4)
 miscounted = (refl, (BadCount, refl, refl))
 
 -- a request of an operation
@@ -77,8 +86,12 @@ is_request : has_answer_bit (request 2) ≡ false
 is_request = refl
 
 -- no such operation is served
-reserved : IsWhat (request 10) (Refused 3)
-reserved = inr (λ e. omega (arith, e), λ e. omega (arith, e), refl)
+reserved : IsWhat (request 11) (Refused 3)
+reserved = inr (record { status = λ e. omega (arith, e); variables = λ e. omega (arith, e); list = λ e. omega (arith, e); nonce = λ e. omega (arith, e) }, refl)
+
+-- a request for a nonce is one, whatever its body
+nonce_asked : IsWhat (record (request 12) { body = 1 ∷ 2 ∷ [] }) Nonce
+nonce_asked = refl
 
 -- a request for a status is one, whatever its body
 status_asked : IsWhat (record (request 1) { body = 1 ∷ 2 ∷ [] }) Status

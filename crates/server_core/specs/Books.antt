@@ -3,9 +3,10 @@ use Rattle.std.specs.Prelude.{◌≡◌, false, List, [], ◌∷◌, ◌++◌, N
 use Rattle.recency.specs.Rows.{find_row}
 use Rattle.sys_vars.specs.Answers.{IsWithin}
 use Rattle.server_core.specs.declared.op.Op.{Op}
-use Rattle.server_core.specs.declared.op.Op.TheVariants.{Publish, Arrive, Look, Sweep, Stop}
+use Rattle.server_core.specs.declared.op.Op.TheVariants.{Publish, Arrive, Look, Read, Sweep, Stop}
 use Rattle.server_core.specs.declared.step.Reply.{Reply}
-use Rattle.server_core.specs.declared.step.Reply.TheVariants.{Published, Time, Looked, Swept, Stopped}
+use Rattle.server_core.specs.declared.step.Reply.TheVariants.{Published, Time, Looked, Read as ReadReplied, Swept, Stopped}
+use Rattle.server_core.specs.ReadReplies.{IsTellableRead}
 use Rattle.server_core.specs.States.{ServerState, refusal_of, state_after}
 use Rattle.server_core.specs.Verdicts.{is_ignored}
 
@@ -18,9 +19,11 @@ pub record BookParts : Type 0 where
 abbrev pub stepped : BookParts → Op → BookParts
 stepped book op = record { state = state_after book.state op; journal = book.journal ++ op ∷ [] }
 
--- an operation may want memory: what a control request is answered with, and a client that is new to the list
+-- an operation may want memory: what a control request is answered with, a page of the client list, and a client that is
+-- new to the list
 abbrev pub MayWant : ServerState → Op → Type 0
 MayWant s (Look asked context) = Unit {0}
+MayWant s (Read ask moment) = Unit {0}
 MayWant s (Arrive ask moment) = (is_ignored s.published ask ≡ false) × (find_row s.rows ask.from.ip ≡ None)
 MayWant s (Publish rec) = ⊥
 MayWant s (Sweep moment) = ⊥
@@ -35,5 +38,15 @@ abbrev pub IsShort : Reply → Type 0
 IsShort (Looked answer) = IsWithin answer
 IsShort Published = Unit {0}
 IsShort (Time verdict) = Unit {0}
+IsShort (ReadReplied reply) = Unit {0}
 IsShort (Swept count) = Unit {0}
 IsShort Stopped = Unit {0}
+
+-- the page of a reply can be told
+abbrev pub IsTellableReply : Reply → Type 0
+IsTellableReply (ReadReplied reply) = IsTellableRead reply
+IsTellableReply (Looked answer) = Unit {0}
+IsTellableReply Published = Unit {0}
+IsTellableReply (Time verdict) = Unit {0}
+IsTellableReply (Swept count) = Unit {0}
+IsTellableReply Stopped = Unit {0}

@@ -19,10 +19,11 @@ use Rattle.sys_vars.specs.declared.context.Context.{Context}
 use Rattle.ntp_packet.specs.declared.leap_version_mode.TheConstants.{MODE_CLIENT, MODE_CONTROL}
 use Rattle.server_core.specs.declared.class.Ask.{Ask}
 use Rattle.server_core.specs.declared.class.Class.{Class}
-use Rattle.server_core.specs.declared.class.Class.TheVariants.{Silent, Time, Look}
+use Rattle.server_core.specs.declared.class.Class.TheVariants.{Silent, Time, Look, Read}
 use Rattle.server_core.specs.declared.class.Unheard.{Unheard}
-use Rattle.server_core.specs.declared.class.Unheard.TheVariants.{Packet, Trailer, Frame, Unserved, NotRequest}
-use Rattle.server_core.specs.Control.{IsLook, frame_number, has_answer_bit}
+use Rattle.server_core.specs.declared.class.Unheard.TheVariants.{Packet, Trailer, Frame, Unserved, NotRequest, BadNonce}
+use Rattle.server_core.specs.Control.{IsRequest, frame_number, has_answer_bit}
+use Rattle.server_core.specs.Reads.{IsRequestClass}
 
 -- the number of a packet's fault, in the order of the tests
 abbrev pub packet_number : PacketFault → ℕ
@@ -57,24 +58,30 @@ pub record IsTimeRequest (octets : List ℕ) (from : Addr) (keys : List Key) (as
   pub client : mode_of octets ≡ MODE_CLIENT
   pub is : IsAskOf judged.header from judged.auth ask
 
--- why a datagram is not heard
-abbrev pub IsUnheard : List ℕ → Unheard → Type 0
-IsUnheard octets (Packet number) =
+-- the octets begin with a control request from this address that is this
+abbrev pub IsControl : List ℕ → Addr → Context → Class → Type 0
+IsControl octets from context class = (f : FrameParts) × IsRequest octets f × IsRequestClass f from context class
+
+-- why a datagram from this address that came in this context is not heard
+abbrev pub IsUnheard : List ℕ → Addr → Context → Unheard → Type 0
+IsUnheard octets from context (Packet number) =
     ((octets ≡ []) × (number ≡ 1))
     ⊎ ((mode_of octets ≡ MODE_CLIENT)
     × ((fault : PacketFault) × IsUnreadable octets (BadHeader fault) × (number ≡ packet_number fault)))
-IsUnheard octets (Trailer number) =
+IsUnheard octets from context (Trailer number) =
     (mode_of octets ≡ MODE_CLIENT)
     × ((fault : TrailerFault) × IsUnreadable octets (BadTrailer fault) × (number ≡ trailer_number fault))
-IsUnheard octets (Frame number) =
+IsUnheard octets from context (Frame number) =
     (mode_of octets ≡ MODE_CONTROL)
     × ((fault : FrameFault) × (frame_fault_of octets ≡ Some fault) × (number ≡ frame_number fault))
-IsUnheard octets (Unserved mode) =
+IsUnheard octets from context (Unserved mode) =
     (octets ≢ []) × (mode ≡ mode_of octets) × (mode ≢ MODE_CLIENT) × (mode ≢ MODE_CONTROL)
-IsUnheard octets NotRequest = (f : FrameParts) × IsFrame octets f × (has_answer_bit f ≡ true)
+IsUnheard octets from context NotRequest = (f : FrameParts) × IsFrame octets f × (has_answer_bit f ≡ true)
+IsUnheard octets from context BadNonce = IsControl octets from context (Silent BadNonce)
 
 -- what a datagram from this address that came in this context asks for, where these keys are known
 abbrev pub IsClass : List ℕ → Addr → List Key → Context → Class → Type 0
-IsClass octets from keys context (Silent why) = IsUnheard octets why
+IsClass octets from keys context (Silent why) = IsUnheard octets from context why
 IsClass octets from keys context (Time ask) = IsTimeRequest octets from keys ask
-IsClass octets from keys context (Look asked) = IsLook octets from asked
+IsClass octets from keys context (Look asked) = IsControl octets from context (Look asked)
+IsClass octets from keys context (Read ask) = IsControl octets from context (Read ask)

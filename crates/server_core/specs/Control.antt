@@ -10,11 +10,11 @@ use Rattle.mode6_frame.specs.Items.{IsItemText}
 use Rattle.mode6_frame.specs.Refusals.{IsRefusedAt}
 use Rattle.sys_vars.specs.declared.asked.Asked.{Asked}
 use Rattle.sys_vars.specs.declared.asked.What.{What}
-use Rattle.sys_vars.specs.declared.asked.What.TheVariants.{Status, Vars, Bad}
+use Rattle.sys_vars.specs.declared.asked.What.TheVariants.{Status, Vars, Nonce, Bad}
 use Rattle.sys_vars.specs.declared.names.TheConstants.{UNKNOWN_NAME}
 use Rattle.sys_vars.specs.Names.{name_of}
 use Rattle.mode6_frame.specs.declared.errors.TheConstants.{BAD_FORMAT, BAD_OPERATION}
-use Rattle.mode6_frame.specs.declared.operations.TheConstants.{OP_READ_STATUS, OP_READ_VARIABLES}
+use Rattle.mode6_frame.specs.declared.operations.TheConstants.{OP_READ_STATUS, OP_READ_VARIABLES, OP_READ_MRU, OP_READ_NONCE}
 
 -- the number of a control message's fault, in the order of the tests
 abbrev pub frame_number : FrameFault → ℕ
@@ -32,9 +32,20 @@ pub record IsRequest (octets : List ℕ) (f : FrameParts) : Type 0 where
   pub frame : IsFrame octets f
   pub no_answer : has_answer_bit f ≡ false
 
--- the octets begin with a request to read variables
+-- the operations that have items in the bodies of their requests: a read of variables, and one of the client list
+abbrev pub HasItems : ℕ → Type 0
+HasItems opcode = (opcode ≡ OP_READ_VARIABLES) ⊎ (opcode ≡ OP_READ_MRU)
+
+-- the octets begin with a request to read variables, or the client list
 abbrev pub IsReadRequest : List ℕ → Type 0
-IsReadRequest octets = (f : FrameParts) × IsRequest octets f × (f.opcode ≡ OP_READ_VARIABLES)
+IsReadRequest octets = (f : FrameParts) × IsRequest octets f × HasItems f.opcode
+
+-- an operation that is not served
+pub record IsUnservedOperation (opcode : ℕ) : Type 0 where
+  pub status : opcode ≢ OP_READ_STATUS
+  pub variables : opcode ≢ OP_READ_VARIABLES
+  pub list : opcode ≢ OP_READ_MRU
+  pub nonce : opcode ≢ OP_READ_NONCE
 
 -- the number by which a name is asked for: that of the association's variable of this name, or that of none
 pub record IsNumberAsked (assoc : ℕ) (name : List ℕ) (number : ℕ) : Type 0 where
@@ -49,16 +60,17 @@ AreNumbersAsked assoc (item ∷ items) [] = ⊥
 AreNumbersAsked assoc (item ∷ items) (number ∷ numbers) =
     IsNumberAsked assoc item.name number × AreNumbersAsked assoc items numbers
 
--- what a request asks for: a status, whatever its body; the variables that its body names, whatever values stand
--- there; or what is refused with an error code
+-- what a request asks for that is no read of the client list, or has no items: a status or a nonce, whatever its body; the
+-- variables that its body names, whatever values stand there; or what is refused with an error code
 abbrev pub IsWhat : FrameParts → What → Type 0
 IsWhat f Status = f.opcode ≡ OP_READ_STATUS
 IsWhat f (Vars numbers) =
     (f.opcode ≡ OP_READ_VARIABLES)
     × ((items : List Item) × IsItemText f.body items × AreNumbersAsked f.assoc items numbers)
+IsWhat f Nonce = f.opcode ≡ OP_READ_NONCE
 IsWhat f (Bad code) =
-    ((f.opcode ≡ OP_READ_VARIABLES) × ((place : ℕ) × IsRefusedAt IsItemText f.body place) × (code ≡ BAD_FORMAT))
-    ⊎ ((f.opcode ≢ OP_READ_STATUS) × (f.opcode ≢ OP_READ_VARIABLES) × (code ≡ BAD_OPERATION))
+    (HasItems f.opcode × ((place : ℕ) × IsRefusedAt IsItemText f.body place) × (code ≡ BAD_FORMAT))
+    ⊎ (IsUnservedOperation f.opcode × (code ≡ BAD_OPERATION))
 
 -- what an answer repeats of a request; the status is still to be filled in
 pub record IsHeadOf (f : FrameParts) (head : Head) : Type 0 where
@@ -73,7 +85,3 @@ pub record IsAskedOf (f : FrameParts) (from : Addr) (asked : Asked) : Type 0 whe
   pub from_is : asked.from ≡ from
   pub head_is : IsHeadOf f asked.head
   pub what_is : IsWhat f asked.what
-
--- a control request from this address
-abbrev pub IsLook : List ℕ → Addr → Asked → Type 0
-IsLook octets from asked = (f : FrameParts) × IsRequest octets f × IsAskedOf f from asked

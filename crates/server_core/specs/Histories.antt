@@ -3,7 +3,7 @@ use Rattle.std.specs.Prelude.{◌≡◌, ◌⊎◌, ◌<◌, ◌-◌, ◌^◌, �
 use Rattle.std.specs.Option.{option_map}
 use Rattle.sys_vars.specs.declared.published.Record.{Record}
 use Rattle.server_core.specs.declared.op.Op.{Op}
-use Rattle.server_core.specs.declared.op.Op.TheVariants.{Publish, Arrive}
+use Rattle.server_core.specs.declared.op.Op.TheVariants.{Publish, Arrive, Read}
 use Rattle.server_core.specs.declared.step.Reply.{Reply}
 use Rattle.server_core.specs.declared.step.StepFault.{StepFault}
 use Rattle.server_core.specs.declared.step.StepFault.TheVariants.{NoMemory}
@@ -33,11 +33,12 @@ records_in (_ ∷ ops) = records_in ops
 abbrev pub published_by : Record → List Op → List Record
 published_by opening ops = opening ∷ records_in ops
 
--- an operation may stand at this state: a publication has a greater epoch than the one before it, and a request for the
--- time does not stand at the greatest stamp that there is
+-- an operation may stand at this state: a publication has a greater epoch than the one before it, and neither a request
+-- for the time nor a read of the client list stands at the greatest stamp that there is
 abbrev pub IsLegalAt : ServerState → Op → Type 0
 IsLegalAt s (Publish boxed) = s.published.epoch < boxed.value.epoch
 IsLegalAt s (Arrive ask moment) = s.stamp < 2 ^ 64 - 1
+IsLegalAt s (Read ask moment) = s.stamp < 2 ^ 64 - 1
 IsLegalAt s _ = Unit {0}
 
 -- operations are legal where each may stand at its state

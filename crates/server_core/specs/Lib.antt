@@ -3,6 +3,9 @@ pub mod Class
 pub mod Control
 pub mod Histories
 pub mod Journals
+pub mod Moves
+pub mod ReadReplies
+pub mod Reads
 pub mod Reply
 pub mod Responses
 pub mod States
@@ -15,4 +18,7 @@ pub use Rattle.mode6_frame.specs.Frames
 pub use Rattle.mode6_frame.specs.Items
 pub use Rattle.mode6_frame.specs.Refusals
 pub use Rattle.recency.specs.Rows
+pub use Rattle.mru_items.specs.Queries
+pub use Rattle.mode6_nonce.specs.Nonces
+pub use Rattle.sys_vars.specs.Contexts
 pub use Rattle.access_rules.specs.Rules

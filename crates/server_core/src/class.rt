@@ -1,7 +1,10 @@
 ghost use Rattle.std.specs.Prelude.{◌≤◌};
+ghost use Rattle.mru_items.specs.Queries.{IsRead};
 
 use fixed_time::Ntp64;
 use mac_keys::Auth;
+use mode6_frame::Head;
+use mru_items::ReadRequest;
 use net_addr::Addr;
 use sys_vars::Asked;
 
@@ -22,6 +25,18 @@ pub struct Ask {
     pub ghost version_most: { version ≤ 4 },
 }
 
+/// What a read of the client list says that its answer depends on.
+#[derive(Drop)]
+pub struct ReadAsk {
+    /// Where the request came from.
+    pub from: Addr,
+    /// What its answer repeats; the status is still to be filled in.
+    pub head: Head,
+    /// The page that it asks for.
+    pub request: ReadRequest,
+    pub ghost read: { ∥ IsRead request ∥₁ },
+}
+
 /// Why a datagram gets no answer, whatever the server's state.
 #[derive(Clone, Copy, Debug, PartialEq, Eq)]
 pub enum Unheard {
@@ -37,6 +52,8 @@ pub enum Unheard {
     Unserved(u8),
     /// It is a control message with the response, the error or the more bit.
     NotRequest,
+    /// It is a read of the client list with no good nonce.
+    BadNonce,
 }
 
 /// What a datagram asks for.
@@ -48,4 +65,6 @@ pub enum Class {
     Time(Ask),
     /// What a control message may ask for.
     Look(Asked),
+    /// A page of the client list.
+    Read(ReadAsk),
 }

@@ -15,7 +15,7 @@ use std::alloc::{AllocError, Global};
 use sys_vars::Context;
 
 /// What a datagram from this address that came in this context asks for, where these keys are
-/// known. Memory is taken for a request to read variables alone.
+/// known. Memory is taken for requests to read variables or the client list alone.
 pub fn classify(
     alloc: Global,
     bytes: &[u8],
@@ -33,7 +33,7 @@ pub fn classify(
     }
     match mode_in(bytes) {
         MODE_CLIENT => Ok(classify_client(bytes, from, keys)),
-        MODE_CONTROL => classify_control(alloc, bytes, from),
+        MODE_CONTROL => classify_control(alloc, bytes, from, context),
         mode => Ok(Class::Silent(Unheard::Unserved(mode))),
     }
 }

@@ -1,36 +1,38 @@
-ghost use Rattle.std.specs.Prelude.{◌≡◌, ◌≤◌, List, length, IfOk, IfErr};
+ghost use Rattle.std.specs.Prelude.{◌≡◌, ◌≢◌, ◌≤◌, List, length, IfOk, IfErr};
 ghost use Rattle.mac_keys.specs.declared.keys.Key.{Key};
 ghost use Rattle.mode6_frame.specs.declared.items.Item.{Item};
 ghost use Rattle.mode6_frame.specs.Frames.{parts_of, FitsFrame, mode_of};
 ghost use Rattle.sys_vars.specs.declared.asked.Asked.{Asked};
 ghost use Rattle.sys_vars.specs.declared.asked.What.{What};
-ghost use Rattle.sys_vars.specs.declared.context.Context.{Context};
 ghost use Rattle.sys_vars.specs.declared.asked.TheConstants.{MAX_NAMES};
 ghost use Rattle.ntp_packet.specs.declared.leap_version_mode.TheConstants.{MODE_CONTROL};
 ghost use Rattle.server_core.specs.declared.class.Class.{Class};
 ghost use Rattle.server_core.specs.Class.{IsClass};
-ghost use Rattle.server_core.specs.Control.{IsReadRequest, AreNumbersAsked, IsWhat, IsHeadOf, IsAskedOf, frame_number, has_answer_bit};
+ghost use Rattle.server_core.specs.Reads.{IsRequestClass};
+ghost use Rattle.server_core.specs.Control.{HasItems, IsReadRequest, AreNumbersAsked, IsWhat, IsHeadOf, IsAskedOf, frame_number, has_answer_bit};
 
 use crate::class::{Class, Unheard};
+use crate::read_asked::classify_read;
 use mode6_frame::{
-    BAD_FORMAT, BAD_OPERATION, Frame, FrameFault, Head, ItemFault, Items, OP_READ_STATUS,
-    OP_READ_VARIABLES, read_items,
+    BAD_FORMAT, BAD_OPERATION, Frame, FrameFault, Head, ItemFault, Items, OP_READ_MRU,
+    OP_READ_NONCE, OP_READ_STATUS, OP_READ_VARIABLES, read_items,
 };
 use net_addr::Addr;
 use std::alloc::{AllocError, Global};
-use sys_vars::{Asked, NameNumbers, What, name_number};
+use sys_vars::{Asked, Context, NameNumbers, What, name_number};
 
 /// What a datagram of a control message's mode asks for.
 pub(crate) fn classify_control(
     alloc: Global,
     bytes: &[u8],
     from: &Addr,
+    context: &Context,
 ) -> Result<Class, AllocError>
     requires mode { mode_of bytes.now ≡ MODE_CONTROL }
-    ensures found { (keys : List Key) → (context : Context)
-        → IfOk result (λ class. IsClass bytes.now from.now keys context class) }
-    ensures only { (keys : List Key) → (context : Context) → (class : Class)
-        → IsClass bytes.now from.now keys context class → IfOk result (λ it. it ≡ class) }
+    ensures found { (keys : List Key)
+        → IfOk result (λ class. IsClass bytes.now from.now keys context.now class) }
+    ensures only { (keys : List Key) → (class : Class)
+        → IsClass bytes.now from.now keys context.now class → IfOk result (λ it. it ≡ class) }
     ensures no_memory { IfErr result (λ _. IsReadRequest bytes.now) }
 {
     match mode6_frame::read(bytes) {
@@ -39,9 +41,31 @@ pub(crate) fn classify_control(
             if is_answer(&frame) {
                 Ok(Class::Silent(Unheard::NotRequest))
             } else {
-                Ok(Class::Look(asked_by(alloc, &frame, from)?))
+                classify_request(alloc, &frame, from, context)
             }
         }
+    }
+}
+
+/// What a control request asks for.
+fn classify_request(
+    alloc: Global,
+    frame: &Frame<'_>,
+    from: &Addr,
+    context: &Context,
+) -> Result<Class, AllocError>
+    requires { FitsFrame (parts_of frame.now) }
+    ensures found { IfOk result
+        (λ class. IsRequestClass (parts_of frame.now) from.now context.now class) }
+    ensures only { (class : Class)
+        → IsRequestClass (parts_of frame.now) from.now context.now class
+        → IfOk result (λ it. it ≡ class) }
+    ensures no_memory { IfErr result (λ _. HasItems frame.now.opcode) }
+{
+    if frame.opcode == OP_READ_MRU {
+        classify_read(alloc, frame, from, context)
+    } else {
+        Ok(Class::Look(asked_by(alloc, frame, from)?))
     }
 }
 
@@ -64,7 +88,8 @@ fn is_answer(frame: &Frame<'_>) -> bool
 }
 
 fn asked_by(alloc: Global, frame: &Frame<'_>, from: &Addr) -> Result<Asked, AllocError>
-    requires { FitsFrame (parts_of frame.now) }
+    requires fits { FitsFrame (parts_of frame.now) }
+    requires other { frame.now.opcode ≢ OP_READ_MRU }
     ensures found { IfOk result (λ asked. IsAskedOf (parts_of frame.now) from.now asked) }
     ensures only { (asked : Asked) → IsAskedOf (parts_of frame.now) from.now asked
         → IfOk result (λ it. it ≡ asked) }
@@ -79,7 +104,7 @@ fn asked_by(alloc: Global, frame: &Frame<'_>, from: &Addr) -> Result<Asked, Allo
 }
 
 /// What the answer to a request repeats of it.
-fn head_of(frame: &Frame<'_>) -> Head
+pub(crate) fn head_of(frame: &Frame<'_>) -> Head
     requires { FitsFrame (parts_of frame.now) }
     ensures { IsHeadOf (parts_of frame.now) result }
 {
@@ -93,7 +118,8 @@ fn head_of(frame: &Frame<'_>) -> Head
 }
 
 fn what_asked(alloc: Global, frame: &Frame<'_>) -> Result<What, AllocError>
-    requires { FitsFrame (parts_of frame.now) }
+    requires fits { FitsFrame (parts_of frame.now) }
+    requires other { frame.now.opcode ≢ OP_READ_MRU }
     ensures found { IfOk result (λ what. IsWhat (parts_of frame.now) what) }
     ensures only { (what : What) → IsWhat (parts_of frame.now) what
         → IfOk result (λ it. it ≡ what) }
@@ -103,6 +129,8 @@ fn what_asked(alloc: Global, frame: &Frame<'_>) -> Result<What, AllocError>
         Ok(What::Status)
     } else if frame.opcode == OP_READ_VARIABLES {
         variables_asked(alloc, frame)
+    } else if frame.opcode == OP_READ_NONCE {
+        Ok(What::Nonce)
     } else {
         Ok(What::Bad(BAD_OPERATION))
     }

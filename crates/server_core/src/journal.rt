@@ -128,7 +128,7 @@ fn record_of(op: Op, before: Record) -> Record
 {
     match op {
         Op::Publish(boxed) => Box::into_inner(boxed),
-        Op::Arrive(..) | Op::Look(..) | Op::Sweep(_) | Op::Stop(_) => before,
+        Op::Arrive(..) | Op::Look(..) | Op::Read(..) | Op::Sweep(_) | Op::Stop(_) => before,
     }
 }
 
@@ -138,7 +138,7 @@ fn record_in<'a>(op: &'a Op, before: &'a Record) -> &'a Record
 {
     match op {
         Op::Publish(boxed) => boxed,
-        Op::Arrive(..) | Op::Look(..) | Op::Sweep(_) | Op::Stop(_) => before,
+        Op::Arrive(..) | Op::Look(..) | Op::Read(..) | Op::Sweep(_) | Op::Stop(_) => before,
     }
 }
 
@@ -161,6 +161,7 @@ fn index_with(index: Index, op: &Op, place: usize) -> Index
         },
         Op::Arrive(..) => index,
         Op::Look(..) => index,
+        Op::Read(..) => index,
         Op::Sweep(_) => index,
     }
 }

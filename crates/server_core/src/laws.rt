@@ -1,11 +1,14 @@
-ghost use Rattle.std.specs.Prelude.{◌≡◌, ◌<◌, ◌≤◌, ◌+◌, ◌++◌, ◌∷◌, List, length, slice_get, None, Some, true, false};
+ghost use Rattle.std.specs.Prelude.{◌≡◌, ◌<◌, ◌≤◌, ◌+◌, ◌++◌, ◌∷◌, ◌^◌, ℕ, List, length, slice_get, None, Some, true, false};
 ghost use Rattle.server_core.specs.declared.op.Op.{Op};
-ghost use Rattle.server_core.specs.Histories.{Place, IsLegal, IsLegalAt, published_by, records_in, reply_at, state_after_all};
+ghost use Rattle.server_core.specs.Histories.{Place, IsLegal, IsLegalAt, published_by, records_in, reply_at, state_after_all, state_at};
+ghost use Rattle.mru_read.specs.Histories.{IsListHistory, list_at};
+ghost use Rattle.recency.specs.Rows.{IsClientList};
+ghost use Rattle.server_core.specs.Moves.{HaveMoments, Run, list_history, listing_of};
 ghost use Rattle.server_core.specs.Journals.{published_in};
 ghost use Rattle.server_core.specs.States.{ServerState, refusal_of, reply_to, stamp_after, state_after};
 ghost use Rattle.server_core.specs.Verdicts.{is_ignored};
 
-use crate::class::Ask;
+use crate::class::{Ask, ReadAsk};
 use crate::op::Op;
 use sys_vars::Record;
 
@@ -65,4 +68,25 @@ pub fn the_last_record_is_published(opening: &Record)
     ghost ops: { List Op }
     ensures { slice_get (published_by opening.now ops) (length (records_in ops))
         ≡ Some (published_in opening.now ops) }
+{}
+
+/// A read that is taken stands in a legal history.
+pub fn reads_that_are_taken_are_legal(ask: &ReadAsk, moment: u64)
+    ghost place: { Place }
+    requires { refusal_of place.before place.opening.stamp (Op.Read ask.now moment) ≡ None }
+    ensures { IsLegalAt place.opening (Op.Read ask.now moment) }
+{}
+
+/// Over legal operations the client list of a server has a history of its own, in which each
+/// operation is a move, and which has the server's rows and last stamp at each place.
+pub fn operations_move_the_client_list()
+    ghost run: { Run }
+    requires list { IsClientList run.opening.limits run.opening.rows run.opening.stamp }
+    requires stamp { run.opening.stamp < 2 ^ 64 }
+    requires legal { IsLegal run.opening run.ops }
+    requires moments { HaveMoments run.ops }
+    ensures history { IsListHistory (list_history run.opening run.ops) }
+    ensures places { (place : ℕ)
+        → list_at (list_history run.opening run.ops) place
+        ≡ listing_of (state_at run.opening run.ops place) }
 {}

@@ -1,4 +1,4 @@
-use crate::class::Ask;
+use crate::class::{Ask, ReadAsk};
 use sys_vars::{Asked, Context, Record};
 
 /// The most operations of a journal, beside one that stops the server.
@@ -39,6 +39,8 @@ pub enum Op {
     Arrive(Ask, u64),
     /// A control request came.
     Look(Asked, Context),
+    /// A read of the client list came at this moment.
+    Read(ReadAsk, u64),
     /// Old rows of the client list go, as of this moment.
     Sweep(u64),
     /// The server stops.

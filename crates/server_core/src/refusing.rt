@@ -1,5 +1,5 @@
 ghost use Rattle.std.specs.Prelude.{◌≡◌, ◌<◌, ◌&&◌, nat_le, not};
-ghost use Rattle.server_core.specs.States.{is_arrival, is_publish, is_stop, limit_met, refusal_of};
+ghost use Rattle.server_core.specs.States.{may_draw, is_publish, is_stop, limit_met, refusal_of};
 
 use crate::journal::Journal;
 use crate::op::{MAX_ENTRIES, MAX_PUBLICATIONS, Op, Why};
@@ -25,7 +25,7 @@ fn limit_met(journal: &Journal, stamp: u64, op: &Op) -> Option<StepFault>
     if is_publish(op) && journal.publications() >= MAX_PUBLICATIONS {
         return Some(StepFault::Full(Why::Publications));
     }
-    if is_arrival(op) && stamp == u64::MAX {
+    if may_draw(op) && stamp == u64::MAX {
         return Some(StepFault::ClockEnd);
     }
     None
@@ -36,7 +36,7 @@ fn is_stop(op: &Op) -> bool
 {
     match op {
         Op::Stop(_) => true,
-        Op::Publish(_) | Op::Arrive(..) | Op::Look(..) | Op::Sweep(_) => false,
+        Op::Publish(_) | Op::Arrive(..) | Op::Look(..) | Op::Read(..) | Op::Sweep(_) => false,
     }
 }
 
@@ -45,15 +45,15 @@ fn is_publish(op: &Op) -> bool
 {
     match op {
         Op::Publish(_) => true,
-        Op::Arrive(..) | Op::Look(..) | Op::Sweep(_) | Op::Stop(_) => false,
+        Op::Arrive(..) | Op::Look(..) | Op::Read(..) | Op::Sweep(_) | Op::Stop(_) => false,
     }
 }
 
-fn is_arrival(op: &Op) -> bool
-    ensures { result ≡ is_arrival op.now }
+fn may_draw(op: &Op) -> bool
+    ensures { result ≡ may_draw op.now }
 {
     match op {
-        Op::Arrive(..) => true,
+        Op::Arrive(..) | Op::Read(..) => true,
         Op::Publish(_) | Op::Look(..) | Op::Sweep(_) | Op::Stop(_) => false,
     }
 }

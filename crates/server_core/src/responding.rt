@@ -2,21 +2,24 @@ ghost use Rattle.std.specs.Prelude.{◌≡◌, List, Some, Err, IfOk, IfErr, OnO
 ghost use Rattle.server_core.specs.declared.class.Class.{Class};
 ghost use Rattle.server_core.specs.declared.class.Unheard.{Unheard};
 ghost use Rattle.mac_keys.specs.declared.keys.Key.{Key};
-ghost use Rattle.server_core.specs.Books.{IsShort};
+ghost use Rattle.server_core.specs.Books.{IsShort, IsTellableReply};
 ghost use Rattle.server_core.specs.Class.{IsClass};
+ghost use Rattle.server_core.specs.ReadReplies.{IsTellableRead};
 ghost use Rattle.server_core.specs.Reply.{HasKey};
-ghost use Rattle.server_core.specs.Responses.{IsAccepted, IsGivable, IsResponse, IsShortResponse, IsUntaken, book_after, op_of, response_by, response_of, response_to, response_with};
+ghost use Rattle.server_core.specs.Responses.{IsAccepted, IsGivable, IsResponse, IsShortResponse, IsTellableResponse, IsUnmet, book_after, op_of, response_by, response_of, response_on, response_to, response_with};
 ghost use Rattle.server_core.specs.States.{ServerState, reply_to};
 
 use crate::book::Book;
 use crate::class::{Ask, Class, Unheard};
 use crate::classing::classify;
 use crate::op::Op;
+use crate::read_reply::ReadReply;
 use crate::request::{Call, Request};
 use crate::response::{Response, Silence};
 use crate::step::{Reply, StepFault};
 use crate::verdict::Verdict;
 use mac_keys::KeyTable;
+use mode6_frame::Head;
 use net_addr::Addr;
 use std::alloc::Global;
 use sys_vars::{Answer, Context};
@@ -48,7 +51,7 @@ pub fn respond(
 
     // A fault leaves it as it was.
     ensures untaken { (class : Class) → IsClass bytes.now from.now keys.now context.now class
-        → IfErr result (IsUntaken book.old (op_of context.now class)) }
+        → IfErr result (IsUnmet book.old context.now class) }
     ensures kept { OnErr result (book.new ≡ book.old) }
 {
     match classify(alloc, bytes, from, keys, context) {
@@ -62,9 +65,10 @@ fn respond_to_class(book: &mut Book, context: &Context, class: Class) -> Result<
     ensures response { IfOk result (λ response.
         response ≡ response_of book.old.state context.now class) }
     ensures short { IfOk result IsShortResponse }
+    ensures tellable { IfOk result IsTellableResponse }
     ensures after { OnOk result (book.new ≡ book_after book.old (op_of context.now class)) }
     ensures accepted { OnOk result (IsAccepted book.old (op_of context.now class)) }
-    ensures untaken { IfErr result (IsUntaken book.old (op_of context.now class)) }
+    ensures untaken { IfErr result (IsUnmet book.old context.now class) }
     ensures kept { OnErr result (book.new ≡ book.old) }
 {
     match call_of(class, context) {
@@ -95,6 +99,13 @@ pub fn call_of(class: Class, context: &Context) -> Result<Call, Unheard>
             op: Op::Look(asked, *context),
             request: Request::Look,
         }),
+        Class::Read(ask) => {
+            let request = Request::Read(ask.from, ask.head);
+            Ok(Call {
+                op: Op::Read(ask, context.moment),
+                request,
+            })
+        }
     }
 }
 
@@ -102,10 +113,12 @@ pub fn call_of(class: Class, context: &Context) -> Result<Call, Unheard>
 pub fn response_to(request: Request, reply: Reply) -> Response
     ensures value { result ≡ response_to request reply }
     ensures short { IsShort reply → IsShortResponse result }
+    ensures tellable { IsTellableReply reply → IsTellableResponse result }
 {
     match (request, reply) {
         (Request::Time(ask), Reply::Time(verdict)) => response_by(ask, verdict),
         (Request::Look, Reply::Looked(answer)) => response_with(answer),
+        (Request::Read(from, head), Reply::Read(reply)) => response_on(from, head, reply),
         _ => Response::Silent(Silence::Ignored),
     }
 }
@@ -130,5 +143,16 @@ pub fn response_with(answer: Answer) -> Response
     match answer {
         Answer::Ignored => Response::Silent(Silence::Ignored),
         Answer::Given { grams, .. } => Response::Grams(grams),
+    }
+}
+
+/// The response to a read from this address whose answer repeats this head, by the server's reply.
+pub fn response_on(from: Addr, head: Head, reply: ReadReply) -> Response
+    ensures value { result ≡ response_on from head reply }
+    ensures tellable { IsTellableRead reply → IsTellableResponse result }
+{
+    match reply {
+        ReadReply::Ignored => Response::Silent(Silence::Ignored),
+        _ => Response::Read(from, head, reply),
     }
 }

@@ -1,6 +1,9 @@
 use crate::class::{Ask, Unheard};
+use crate::read_reply::ReadReply;
 use crate::reply::Basis;
 use edge_traits::Grams;
+use mode6_frame::Head;
+use net_addr::Addr;
 
 /// Why a datagram gets no answer.
 #[derive(Clone, Copy, Debug, PartialEq, Eq)]
@@ -25,4 +28,7 @@ pub enum Response {
     Rate(Ask),
     /// These datagrams.
     Grams(Grams),
+    /// What becomes of a read from this address, whose answer repeats this head. `read_grams` makes the
+    /// datagrams.
+    Read(Addr, Head, ReadReply),
 }

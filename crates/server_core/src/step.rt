@@ -1,4 +1,5 @@
 use crate::op::{Stop, Why};
+use crate::read_reply::ReadReply;
 use crate::verdict::Verdict;
 use sys_vars::Answer;
 
@@ -11,6 +12,8 @@ pub enum Reply {
     Time(Verdict),
     /// The answer to a control request.
     Looked(Answer),
+    /// What becomes of a read of the client list.
+    Read(ReadReply),
     /// So many rows of the client list went.
     Swept(u32),
     /// The server stops.

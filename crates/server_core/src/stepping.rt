@@ -1,10 +1,11 @@
 ghost use Rattle.std.specs.Prelude.{◌≡◌, ◌<◌, ◌⊎◌, [], ◌∷◌, ◌++◌, None, IfOk, OnOk, OnErr, MatchResult};
-ghost use Rattle.server_core.specs.Books.{IsShort, MayWant};
+ghost use Rattle.server_core.specs.Books.{IsShort, IsTellableReply, MayWant};
 ghost use Rattle.server_core.specs.States.{refusal_of, reply_to, rows_after, stamp_after, state_after};
 
 use crate::arriving::arrive;
 use crate::book::Book;
 use crate::op::Op;
+use crate::reading::read_list;
 use crate::refusing::refusal;
 use crate::step::{Reply, StepFault};
 use recency::{PlainList, Recency, Steps};
@@ -19,8 +20,8 @@ impl Book {
     ///
     /// An operation is refused where the server was stopped, where its journal has all that it may
     /// have, or where a stamp is to be drawn and the last one is the greatest that there is, in this
-    /// order. Memory is wanted for the answer to a control request, and for a client that is new to
-    /// the list. What is refused leaves the server as it was, without an entry.
+    /// order. Memory is wanted for the answer to a control request, for a page of the client list,
+    /// and for a client that is new to the list. What is refused leaves the server as it was, without an entry.
     pub fn step(&mut self, op: Op) -> Result<Reply, StepFault>
         ensures answered { MatchResult result
             (λ reply. (refusal_of self.old.journal self.old.state.stamp op ≡ None)
@@ -31,6 +32,7 @@ impl Book {
         ensures next { OnOk result (self.new.state ≡ state_after self.old.state op) }
         ensures entered { OnOk result (self.new.journal ≡ self.old.journal ++ op ∷ []) }
         ensures short { IfOk result IsShort }
+        ensures tellable { IfOk result IsTellableReply }
         ensures kept { OnErr result (self.new ≡ self.old) }
     {
         if let Some(fault) = refusal(&self.journal, self.stamp, &op) {
@@ -54,6 +56,7 @@ impl Book {
         requires some { 0 < blank.parts }
         ensures reply { IfOk result (λ reply. reply ≡ reply_to self.old.state op.now) }
         ensures short { IfOk result IsShort }
+        ensures tellable { IfOk result IsTellableReply }
         ensures rows { OnOk result (self.new.state.rows ≡ rows_after self.old.state op.now) }
         ensures stamp { OnOk result (self.new.state.stamp ≡ stamp_after self.old.state op.now) }
         ensures memory { OnErr result (MayWant self.old.state op.now) }
@@ -81,6 +84,19 @@ impl Book {
             Op::Look(asked, context) => {
                 let record = self.journal.latest(&self.opening);
                 Ok(Reply::Looked(answer(self.alloc, record, asked, context)?))
+            }
+            Op::Read(ask, moment) => {
+                let record = self.journal.latest(&self.opening);
+                let reply = read_list::<PlainList, L>(
+                    self.alloc,
+                    &self.list,
+                    &mut self.stamp,
+                    record,
+                    ask,
+                    *moment,
+                    blank,
+                )?;
+                Ok(Reply::Read(reply))
             }
             Op::Sweep(moment) => {
                 let mut steps = Steps::<L>::begin(blank);

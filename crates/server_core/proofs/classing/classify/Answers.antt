@@ -10,7 +10,7 @@ returns-in_default-clause-only c =
     only_unserved _ _ _ c.args.context.now _ (not_empty _ _ c.is_empty.ensures c.if-is_empty.false) c.mode_in.ensures.value (λ e. omega (arith, e)) (λ e. omega (arith, e))
 
 pub returns-in-6-clause-found : goal.returns-in-6-clause-found
-returns-in-6-clause-found c = c.classify_control.ensures.found c.args.keys.now c.args.context.now
+returns-in-6-clause-found c = c.classify_control.ensures.found c.args.keys.now
 
 pub returns-in-3-clause-found : goal.returns-in-3-clause-found
 returns-in-3-clause-found c = c.classify_client.ensures.found c.args.context.now
@@ -19,4 +19,4 @@ pub returns-in-3-clause-only : goal.returns-in-3-clause-only
 returns-in-3-clause-only c = c.classify_client.ensures.only c.args.context.now
 
 pub returns-in-6-clause-only : goal.returns-in-6-clause-only
-returns-in-6-clause-only c = c.classify_control.ensures.only c.args.keys.now c.args.context.now
+returns-in-6-clause-only c = c.classify_control.ensures.only c.args.keys.now

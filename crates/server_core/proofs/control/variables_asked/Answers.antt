@@ -1,4 +1,4 @@
-use Rattle.std.proofs.Common.{subst, arith}
+use Rattle.std.proofs.Common.{subst, arith, inl}
 use Rattle.mode6_frame.specs.Frames.{parts_of}
 use Rattle.mode6_frame.specs.Items.{IsDue}
 use Rattle.server_core.proofs.ControlLemmas.{only_variables, only_bad_format, unless_no_memory}
@@ -15,4 +15,4 @@ returns-in_ok-numbers_asked-in-Ok-clause-only c =
 pub returns-in-Err-At-clause-only : goal.returns-in-Err-At-clause-only
 returns-in-Err-At-clause-only c =
     let due = subst (IsDue c.args.frame.now.body.now) c.in-Err-At.field-0-is c.in-Err-At.ensures.refused in
-    only_bad_format (parts_of c.args.frame.now) due.0 c.requires.reads due.1
+    only_bad_format (parts_of c.args.frame.now) due.0 (inl c.requires.reads) due.1

@@ -14,5 +14,8 @@ returns-in-Arrive c = IsIndexed-with c.args.index _ c.args.place _ (rw c.in-Arri
 pub returns-in-Look : goal.returns-in-Look
 returns-in-Look c = IsIndexed-with c.args.index _ c.args.place _ (rw c.in-Look.is refl)
 
+pub returns-in-Read : goal.returns-in-Read
+returns-in-Read c = IsIndexed-with c.args.index _ c.args.place _ (rw c.in-Read.is refl)
+
 pub returns-in-Sweep : goal.returns-in-Sweep
 returns-in-Sweep c = IsIndexed-with c.args.index _ c.args.place _ (rw c.in-Sweep.is refl)
