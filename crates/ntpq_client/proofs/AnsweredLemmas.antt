@@ -134,6 +134,7 @@ told-used answers t octets f P f_is served of_one held used tells =
       among = here.1;
       datagram = subst (IsDatagramOf here.0) f_is here.2;
       told = tells here.0 (IsTold-step_of (answers t.posted) here.0 t.current f (served t.posted) here.1 here.2 held.kept);
+      each = λ other among datagram. tells other (IsTold-step_of (answers t.posted) other t.current f (served t.posted) among (subst (IsDatagramOf other) (sym f_is) datagram) held.kept);
     }
 
 -- what a step is to a client, of these answers
@@ -252,6 +253,7 @@ LastTold-one answers event t P told (octets, took, by) =
         among = subst (λ (n : ℕ). Contains (answers n) by.answer) (sym posted) by.among;
         datagram = by.datagram;
         told = by.told;
+        each = λ other among datagram. by.each other (subst (λ (n : ℕ). Contains (answers n) other) posted among) datagram;
       },
     )
 

@@ -12,6 +12,7 @@ use Rattle.ntpq_client.specs.declared.client.TheConstants.{MAX_REQUESTS, MAX_UNU
 use Rattle.ntpq_client.specs.declared.fault.AskFault.TheVariants.{NoReply, Flooded}
 use Rattle.ntpq_client.specs.declared.news.News.TheVariants.{Nothing, Answered, Denied, Quiet}
 use Rattle.ntpq_client.specs.declared.request.Request.{Request}
+use Rattle.ntpq_client.specs.declared.request.TheConstants.{REQUEST_VERSION}
 use Rattle.ntpq_client.specs.Requests.{request_octets}
 use Rattle.ntpq_client.specs.Talks.{Talk, new_talk, stuck, heard, after_heard, heard_news, after_event, news_of, post_of}
 use Rattle.mode6_frame.specs.Served.{Served, Body, IsServed, IsOneByTag}
@@ -133,3 +134,7 @@ served = record {
   };
   taken = (tt, ((λ from. let ports : 124 ≡ 123 = ap (λ (a : Addr). a.port) from in absurd (omega arith)), ((λ from. (body, (0, lit< tt, refl), (refl, refl, record { offset = refl; more = refl; body = refl }))), tt)));
 }
+
+-- requests have version 2
+version-is : REQUEST_VERSION ≡ 2
+version-is = refl

@@ -31,13 +31,14 @@ pub record AreAnswers (server : Addr) (answers : ℕ → List Served) (events : 
   pub served : (sequence : ℕ) → AreServed (answers sequence)
   pub taken : AllByRecursion (IsAnswered server answers) events
 
--- a datagram belongs to an answer to the request that the client posted last, of which this is so
+-- a datagram belongs to an answer to the request that the client posted last; of each one to which it belongs this is so
 pub record IsToldBy (answers : ℕ → List Served) (t : Talk) (octets : List ℕ) (P : Served → Type 0) : Type 0 where
   pub answer : Served
   pub current : (frame_at octets).sequence ≡ t.posted
   pub among : Contains (answers t.posted) answer
   pub datagram : IsDatagramOf answer (frame_at octets)
   pub told : P answer
+  pub each : (other : Served) → Contains (answers t.posted) other → IsDatagramOf other (frame_at octets) → P other
 
 -- an event took a datagram of an answer to the request that the client posted last, of which this is so
 abbrev pub TookOf : (ℕ → List Served) → Event → Talk → (Served → Type 0) → Type 0

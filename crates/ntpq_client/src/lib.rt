@@ -23,4 +23,4 @@ pub use fault::AskFault;
 pub use news::News;
 pub use plan::Plan;
 pub use polling::Got;
-pub use request::Request;
+pub use request::{REQUEST_VERSION, Request};

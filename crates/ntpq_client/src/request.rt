@@ -1,5 +1,8 @@
 use edge_traits::Text;
 
+/// The version of all requests of a query tool (our own rule).
+pub const REQUEST_VERSION: u8 = 2;
+
 /// A request, without its sequence number (RFC 9327, section 2).
 #[derive(Drop)]
 pub struct Request {
