@@ -1,0 +1,9 @@
+pub mod Tellings
+pub mod Coverage
+pub mod Still
+pub use Rattle.mrulist_reader.specs.Readers
+pub use Rattle.mru_read.specs.Histories
+pub use Rattle.mru_read.specs.Pages
+pub use Rattle.ntpq_client.specs.Dialogues
+pub use Rattle.mode6_frame.specs.Places
+pub use Rattle.mode6_frame.specs.Served
