@@ -1,0 +1,9 @@
+pub mod Runs
+pub use Rattle.mrulist_coverage.specs.Coverage
+pub use Rattle.mrulist_coverage.specs.Still
+pub use Rattle.mrulist_coverage.specs.Tellings
+pub use Rattle.mrulist_reader.specs.Readers
+pub use Rattle.mru_items.specs.Queries
+pub use Rattle.ntpq_client.specs.Ends
+pub use Rattle.edge_traits.specs.Ports
+pub use Rattle.edge_traits.specs.Told
