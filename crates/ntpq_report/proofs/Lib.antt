@@ -1,3 +1,4 @@
 pub mod AssociationLemmas
 mod RowLemmas
+mod ClientFacts
 mod WorkedFacts
