@@ -10,6 +10,7 @@ use Rattle.edge_traits.proofs.ToldLemmas.{gained-gained}
 use Rattle.edge_traits.specs.declared.port.Event.{Event}
 use Rattle.edge_traits.specs.declared.port.Event.TheVariants.{Silence, Took, Sent}
 use Rattle.edge_traits.specs.declared.status.Status.{Status}
+use Rattle.sys_vars.specs.declared.context.Context.{Context}
 use Rattle.server_core.specs.States.{ServerState}
 use Rattle.server_core.specs.declared.response.Response.{Response}
 use Rattle.server_core.specs.declared.response.Response.TheVariants.{Silent as NoAnswer}
@@ -82,7 +83,7 @@ IsUnanswered-response common s from octets came response why events readings is 
 }
 
 -- a datagram that is answered
-IsAnswer-response : (common : Common) (s : ServerState) (from : Addr) (octets : List ℕ) (came sent : ℕ) (response : Response) (grams : List (List ℕ)) (readings : List ℕ) → IsResponse s common.keys (context_at common came) from octets response → IsMade common.keys came sent response grams → readings ≡ sent ∷ [] → IsAnswer common s from octets (came ∷ readings) grams
+IsAnswer-response : (common : Common) (s : ServerState) (from : Addr) (octets : List ℕ) (came sent : ℕ) (response : Response) (grams : List (List ℕ)) (readings : List ℕ) → IsResponse s common.keys (context_at common came) from octets response → IsMade common.keys (context_at common came) sent response grams → readings ≡ sent ∷ [] → IsAnswer common s from octets (came ∷ readings) grams
 IsAnswer-response common s from octets came sent response grams readings is made read = record {
   response = response;
   came = came;
@@ -93,14 +94,15 @@ IsAnswer-response common s from octets came sent response grams readings is made
 }
 
 -- what is done about the response to a datagram is what follows it
-pub Follows-GivesResponse : (common : Common) (s : ServerState) (from : Addr) (octets : List ℕ) (came : ℕ) (response : Response) (ending : Ending) (events : List Event) (readings : List ℕ) → IsResponse s common.keys (context_at common came) from octets response → GivesResponse common.keys came response ending from events readings → Follows common s ending from octets events (came ∷ readings)
+pub Follows-GivesResponse : (common : Common) (s : ServerState) (from : Addr) (octets : List ℕ) (came : ℕ) (response : Response) (ending : Ending) (events : List Event) (readings : List ℕ) → IsResponse s common.keys (context_at common came) from octets response → GivesResponse common.keys (context_at common came) response ending from events readings → Follows common s ending from octets events (came ∷ readings)
 Follows-GivesResponse common s from octets came response (Answered count) events readings is (grams, sent, made, given, read) =
     (grams, IsAnswer-response common s from octets came sent response grams readings is made read, given.0, given.1)
 Follows-GivesResponse common s from octets came response (Silent why) events readings is (same, none, unread) =
     IsUnanswered-response common s from octets came response why events readings is same none unread
 Follows-GivesResponse common s from octets came response (Failed Port) events readings is (grams, sent, made, given, read) =
     (grams, IsAnswer-response common s from octets came sent response grams readings is made read, given)
-Follows-GivesResponse common s from octets came response (Failed NoMemory) events readings is (grams, sent, made, given, read) =
+Follows-GivesResponse common s from octets came response (Failed NoMemory) events readings is (inl (none, unread)) = inl none
+Follows-GivesResponse common s from octets came response (Failed NoMemory) events readings is (inr (grams, sent, made, given, read)) =
     inr (grams, IsAnswer-response common s from octets came sent response grams readings is made read, given)
 Follows-GivesResponse common s from octets came response (Failed Words) events readings is (grams, sent, made, given, read) = absurd given
 Follows-GivesResponse common s from octets came response (Failed Host) events readings is (grams, sent, made, given, read) = absurd given
@@ -140,10 +142,11 @@ IsServed-HasCome common (Failed Port) events readings status faults faults' quie
 IsServed-HasCome common (Failed _) events readings status faults faults' quiets quiets' is_closed sink sink' old new (inl comes) causes (inl (is, whole)) failed came port_well sink_well = absurd comes.follows
 
 -- datagrams that were given, or could not be, are what is done about a response that is just these
-pub GivesResponse-all : (keys : List Key) (came sent : ℕ) (response : Response) (ending : Ending) (to : Addr) (grams : List (List ℕ)) (events : List Event) → IsMade keys came sent response grams → GivesAll ending to grams events → GivesResponse keys came response ending to events (sent ∷ [])
-GivesResponse-all keys came sent response (Answered count) to grams events made gives = (grams, sent, made, gives, refl)
-GivesResponse-all keys came sent response (Silent why) to grams events made gives = absurd gives
-GivesResponse-all keys came sent response (Failed why) to grams events made gives = (grams, sent, made, gives, refl)
+pub GivesResponse-all : (keys : List Key) (context : Context) (sent : ℕ) (response : Response) (ending : Ending) (to : Addr) (grams : List (List ℕ)) (events : List Event) → IsMade keys context sent response grams → GivesAll ending to grams events → GivesResponse keys context response ending to events (sent ∷ [])
+GivesResponse-all keys context sent response (Answered count) to grams events made gives = (grams, sent, made, gives, refl)
+GivesResponse-all keys context sent response (Silent why) to grams events made gives = absurd gives
+GivesResponse-all keys context sent response (Failed NoMemory) to grams events made gives = inr (grams, sent, made, gives, refl)
+GivesResponse-all keys context sent response (Failed why) to grams events made gives = (grams, sent, made, gives, refl)
 
 -- one datagram more was given
 pub gained-sent : (old between new : Option (List Event)) (to : Addr) (grams : List (List ℕ)) (place : ℕ) (gram : List ℕ) → place < length grams → gram ≡ slice_index_or grams place gram

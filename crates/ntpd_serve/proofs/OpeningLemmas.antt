@@ -20,7 +20,7 @@ use Rattle.sys_vars.specs.declared.context.Context.{Context}
 use Rattle.sys_vars.specs.declared.published.Record.{Record}
 use Rattle.server_core.specs.declared.class.Ask.{Ask}
 use Rattle.server_core.specs.declared.class.Class.{Class}
-use Rattle.server_core.specs.declared.class.Class.TheVariants.{Silent as SilentClass, Time as TimeClass, Look as LookClass}
+use Rattle.server_core.specs.declared.class.Class.TheVariants.{Silent as SilentClass, Time as TimeClass, Look as LookClass, Read as ReadClass}
 use Rattle.server_core.specs.declared.op.Op.TheVariants.{Arrive, Look}
 use Rattle.server_core.specs.declared.step.Reply.TheVariants.{Time, Looked}
 use Rattle.server_core.specs.declared.verdict.Verdict.{Verdict}
@@ -33,7 +33,12 @@ use Rattle.server_core.specs.declared.response.Response.{Response}
 use Rattle.server_core.specs.declared.response.Response.TheVariants.{Silent as NoAnswer}
 use Rattle.server_core.specs.declared.response.Silence.TheVariants.{Ignored as IgnoredAsk, Limited as LimitedAsk}
 use Rattle.server_core.specs.declared.request.Request.TheVariants.{Time as TimeRequest, Look as LookRequest}
-use Rattle.server_core.specs.Responses.{response_of, response_to}
+use Rattle.server_core.specs.ReadReplies.{page_reply, reply_under}
+use Rattle.server_core.specs.Responses.{response_of, response_on, response_to}
+use Rattle.mode6_frame.specs.declared.message.Head.{Head}
+use Rattle.mru_read.specs.declared.pages.Page.{Page}
+use Rattle.mru_read.specs.Pages.{page_of}
+use Rattle.sys_vars.specs.Status.{system_status_of}
 use Rattle.ntpd_serve.specs.declared.ending.Ending.{Ending}
 use Rattle.ntpd_serve.specs.declared.ending.Ending.TheVariants.{Silent}
 use Rattle.ntpd_serve.specs.declared.once.Common.{Common}
@@ -76,11 +81,15 @@ reply_to-Arrive origin s ask came opening =
     ap Time (ap judged (flags_of-opening origin s.published ask.from.ip opening.published) ∙ rate_verdict-no_flags s.published stamp row)
 
 -- each control request is answered
-pub reply_to-Look : (origin : Ntp64) (s : ServerState) (asked : Asked) (context : Context) → IsOpeningState origin s → reply_to s (Look asked context) ≡ Looked (Given s.published.epoch (grams_of s.published asked))
+pub reply_to-Look : (origin : Ntp64) (s : ServerState) (asked : Asked) (context : Context) → IsOpeningState origin s → reply_to s (Look asked context) ≡ Looked (Given s.published.epoch (grams_of s.published asked context))
 reply_to-Look origin s asked context opening =
-    let given : Answer = Given s.published.epoch (grams_of s.published asked) in
+    let given : Answer = Given s.published.epoch (grams_of s.published asked context) in
     let judged : ℕ → Answer = λ flags. cond (has_flag flags IGNORE || has_flag flags NOQUERY) IgnoredLook given in
     ap Looked (ap judged (flags_of-opening origin s.published asked.from.ip opening.published))
+
+-- a read is refused for its pairs alone, or gets its page
+reply_under-none : (flags status : ℕ) (page : Option Page) → flags ≡ 0 → reply_under flags status page ≡ page_reply status page
+reply_under-none flags status page none = ap (λ (f : ℕ). reply_under f status page) none
 
 -- a response that is no refusal
 abbrev IsHeard : Response → Type 0
@@ -88,12 +97,21 @@ IsHeard (NoAnswer IgnoredAsk) = ⊥
 IsHeard (NoAnswer LimitedAsk) = ⊥
 IsHeard _ = Unit {0}
 
+IsHeard-page : (from : Addr) (head : Head) (status : ℕ) (page : Option Page) → IsHeard (response_on from head (page_reply status page))
+IsHeard-page from head status None = tt
+IsHeard-page from head status (Some page) = tt
+
 IsHeard-response : (origin : Ntp64) (s : ServerState) (context : Context) (class : Class) (response : Response) → IsOpeningState origin s → response ≡ response_of s context class → IsHeard response
 IsHeard-response origin s context (SilentClass why) response opening same = subst IsHeard (sym same) tt
 IsHeard-response origin s context (TimeClass ask) response opening same =
     subst IsHeard (sym (same ∙ ap (response_to (TimeRequest ask)) (reply_to-Arrive origin s ask context.moment opening))) tt
 IsHeard-response origin s context (LookClass asked) response opening same =
     subst IsHeard (sym (same ∙ ap (response_to LookRequest) (reply_to-Look origin s asked context opening))) tt
+IsHeard-response origin s context (ReadClass ask) response opening same =
+    let page : Option Page = page_of s.rows ask.request (drawn s.stamp context.moment) in
+    let status : ℕ = system_status_of s.published.system in
+    subst IsHeard (sym (same ∙ ap (response_on ask.from ask.head) (reply_under-none (flags_of s.published.rules ask.from.ip) status page (flags_of-opening origin s.published ask.from.ip opening.published))))
+    (IsHeard-page ask.from ask.head status page)
 
 -- so no call ends by a refusal
 pub unrefused-Follows : (common : Common) (s : ServerState) (ending : Ending) (from : Addr) (octets : List ℕ) (events : List Event) (readings : List ℕ)

@@ -3,7 +3,7 @@ use Rattle.std.specs.Prelude.{◌≡◌, ◌⊎◌, ℕ, Option, List, [], ◌�
 use Rattle.edge_traits.specs.Told.{gained, GainedFront}
 use Rattle.edge_traits.specs.declared.status.Status.{Status}
 use Rattle.server_core.specs.declared.class.Unheard.{Unheard}
-use Rattle.server_core.specs.declared.class.Unheard.TheVariants.{Packet, Trailer, Frame, Unserved, NotRequest}
+use Rattle.server_core.specs.declared.class.Unheard.TheVariants.{Packet, Trailer, Frame, Unserved, NotRequest, BadNonce}
 use Rattle.server_core.specs.declared.response.Silence.{Silence}
 use Rattle.server_core.specs.declared.response.Silence.TheVariants.{Unheard as NotHeard, Ignored, Limited}
 use Rattle.ntpd_serve.specs.declared.ending.Ending.{Ending}
@@ -18,6 +18,7 @@ unheard_text (Trailer number) = codes "trailer " ++ decimal number
 unheard_text (Frame number) = codes "frame " ++ decimal number
 unheard_text (Unserved mode) = codes "unserved " ++ decimal mode
 unheard_text NotRequest = codes "not-request"
+unheard_text BadNonce = codes "bad-nonce"
 
 -- why a datagram got no answer
 abbrev pub silence_text : Silence → List ℕ

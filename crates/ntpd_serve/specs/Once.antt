@@ -16,6 +16,10 @@ use Rattle.server_core.specs.declared.response.Response.{Response}
 use Rattle.server_core.specs.declared.response.Response.TheVariants.{Silent as NoAnswer}
 use Rattle.server_core.specs.declared.response.Silence.{Silence as Reason}
 use Rattle.server_core.specs.declared.response.Silence.TheVariants.{Ignored, Limited}
+use Rattle.server_core.specs.Books.{BookParts}
+use Rattle.server_core.specs.Class.{IsClass}
+use Rattle.server_core.specs.declared.class.Class.TheVariants.{Silent as NotHeard}
+use Rattle.server_core.specs.declared.class.Unheard.{Unheard}
 use Rattle.server_core.specs.Responses.{IsResponse, grams_of}
 use Rattle.ntpd_serve.specs.declared.ending.Ending.{Ending}
 use Rattle.ntpd_serve.specs.declared.ending.Ending.TheVariants.{Answered, Silent, Failed}
@@ -55,9 +59,9 @@ sent_events to grams = map (λ gram. Sent to gram) grams
 abbrev pub IsCutShort : Addr → List (List ℕ) → List Event → Type 0
 IsCutShort to grams events = (given : ℕ) × (given < length grams) × (events ≡ sent_events to (take given grams))
 
--- the response to what came at one moment is these datagrams, one at least, where it is given at another
-abbrev pub IsMade : List Key → ℕ → ℕ → Response → List (List ℕ) → Type 0
-IsMade keys came sent response grams = (grams_of keys came sent response ≡ grams) × (0 < length grams)
+-- the response to what came in this context is these datagrams, one at least, where it is given at this moment
+abbrev pub IsMade : List Key → Context → ℕ → Response → List (List ℕ) → Type 0
+IsMade keys context sent response grams = (grams_of keys context sent response ≡ grams) × (0 < length grams)
 
 -- The datagram is answered by these, in their order. The clock was read when the datagram was classed, and once again
 -- before the answer was given.
@@ -67,7 +71,7 @@ pub record IsAnswer (common : Common) (s : ServerState) (from : Addr) (octets : 
   pub sent : ℕ
   pub read : readings ≡ came ∷ sent ∷ []
   pub is_response : IsResponse s common.keys (context_at common came) from octets response
-  pub made : IsMade common.keys came sent response grams
+  pub made : IsMade common.keys (context_at common came) sent response grams
 
 -- The datagram gets no answer, for this reason, and none is given. The clock was read once.
 pub record IsUnanswered (common : Common) (s : ServerState) (from : Addr) (octets : List ℕ) (why : Reason) (events : List Event) (readings : List ℕ) : Type 0 where
@@ -90,6 +94,12 @@ Follows common s (Failed NoMemory) from octets events readings =
     (events ≡ [])
     ⊎ ((grams : List (List ℕ)) × IsAnswer common s from octets readings grams × IsCutShort from grams events)
 Follows common s (Failed _) from octets events readings = ⊥
+
+-- a datagram that is not heard at the moment of the first of these readings leaves the server as it was
+abbrev pub LeavesUnheard : Common → Addr → List ℕ → List ℕ → BookParts → BookParts → Type 0
+LeavesUnheard common from octets [] old new = new ≡ old
+LeavesUnheard common from octets (came ∷ readings) old new =
+    (why : Unheard) → IsClass octets from common.keys (context_at common came) (NotHeard why) → new ≡ old
 
 -- a datagram came after fewer silences than end the call, to a server that has just begun and so refuses nobody
 pub record Comes (common : Common) (ending : Ending) (events : List Event) (readings : List ℕ) : Type 0 where
@@ -124,14 +134,21 @@ GivesAll (Failed Port) to grams events = IsCutShort to grams events
 GivesAll (Failed NoMemory) to grams events = IsCutShort to grams events
 GivesAll _ to grams events = ⊥
 
--- What is done about the response to what came at one moment, by how the call ends: nothing, for a reason; or the clock
--- is read, and then its datagrams are given.
-abbrev pub GivesResponse : List Key → ℕ → Response → Ending → Addr → List Event → List ℕ → Type 0
-GivesResponse keys came response (Silent why) to events readings =
-    (response ≡ NoAnswer why) × (events ≡ []) × (readings ≡ [])
-GivesResponse keys came response ending to events readings =
-    (grams : List (List ℕ)) × (sent : ℕ) × IsMade keys came sent response grams
+-- the datagrams of the response to what came in this context are given, once the clock is read
+abbrev pub GivesGrams : List Key → Context → Response → Ending → Addr → List Event → List ℕ → Type 0
+GivesGrams keys context response ending to events readings =
+    (grams : List (List ℕ)) × (sent : ℕ) × IsMade keys context sent response grams
     × GivesAll ending to grams events × (readings ≡ sent ∷ [])
+
+-- What is done about the response to what came in this context, by how the call ends: nothing, for a reason; or its
+-- datagrams are given, for which memory may be wanting before the clock is read.
+abbrev pub GivesResponse : List Key → Context → Response → Ending → Addr → List Event → List ℕ → Type 0
+GivesResponse keys context response (Silent why) to events readings =
+    (response ≡ NoAnswer why) × (events ≡ []) × (readings ≡ [])
+GivesResponse keys context response (Failed NoMemory) to events readings =
+    ((events ≡ []) × (readings ≡ [])) ⊎ GivesGrams keys context response (Failed NoMemory) to events readings
+GivesResponse keys context response ending to events readings =
+    GivesGrams keys context response ending to events readings
 
 -- what stands behind an ending: faults of the port that rose, takes that found nothing, or its end
 pub record Causes (ending : Ending) (faults faults' quiets quiets' : ℕ) (is_closed : Bool) : Type 0 where

@@ -28,5 +28,5 @@ pub fn each_control_request_is_answered(origin: Ntp64, asked: &Asked, context: &
     ghost server: { ServerState }
     requires { IsOpeningState origin server }
     ensures { reply_to server (Op.Look asked.now context.now) ≡ Reply.Looked (Answer.Given
-        server.published.epoch (grams_of server.published asked.now)) }
+        server.published.epoch (grams_of server.published asked.now context.now)) }
 {}

@@ -10,7 +10,7 @@ ghost use Rattle.server_core.specs.declared.class.Class.{Class};
 ghost use Rattle.server_core.specs.declared.class.Unheard.{Unheard};
 ghost use Rattle.ntpd_serve.specs.declared.ending.Ending.{Ending};
 ghost use Rattle.ntpd_serve.specs.Ending.{Reports};
-ghost use Rattle.ntpd_serve.specs.Once.{silences, context_at, Follows, Happens, OnlySilences, Causes, HasCome, IsOpeningState, IsServed};
+ghost use Rattle.ntpd_serve.specs.Once.{silences, context_at, Follows, Happens, LeavesUnheard, OnlySilences, Causes, HasCome, IsOpeningState, IsServed};
 
 use crate::ending::{Ending, Failure};
 use crate::report::report;
@@ -170,12 +170,13 @@ fn serve_datagram<P: Port, C: Clock>(
     ensures follows { (events : List Event) × (readings : List ℕ)
         × Follows common.now book.old.state result from.now datagram.old events readings
         × (P.trace port.new ≡ gained (P.trace port.old) events)
-        × Grows (C.readings clock.old) (C.readings clock.new) readings }
+        × Grows (C.readings clock.old) (C.readings clock.new) readings
+        × LeavesUnheard common.now from.now datagram.old readings book.old book.new }
 
-    // A datagram that is not heard leaves the server as it was.
+    // A datagram that is heard at no moment leaves the server as it was.
     ensures silent { (why : Unheard)
-        → (context : Context)
-        → IsClass datagram.old from.now common.now.keys context (Class.Silent why)
+        → ((context : Context)
+        → IsClass datagram.old from.now common.now.keys context (Class.Silent why))
         → book.new ≡ book.old }
 
     ensures causes { Causes result (P.faults port.old) (P.faults port.new)
@@ -193,7 +194,12 @@ fn serve_datagram<P: Port, C: Clock>(
         datagram.as_slice(),
     ) {
         Err(_) => Ending::Failed(Failure::NoMemory),
-        Ok(response) => send_response(port, clock, &common.keys, came, &response, from, datagram),
+        Ok(response) => {
+            let keys = &common.keys;
+            send_response(
+                alloc, port, clock, keys, &context, &response, from, datagram,
+            )
+        }
     }
 }
 

@@ -90,6 +90,7 @@ fn put_unheard(line: &mut Octets, why: &Unheard)
         Unheard::Frame(number) => put_numbered(line, b"frame ", u64::from(*number)),
         Unheard::Unserved(mode) => put_numbered(line, b"unserved ", u64::from(*mode)),
         Unheard::NotRequest => line.put(b"not-request"),
+        Unheard::BadNonce => line.put(b"bad-nonce"),
     }
 }
 

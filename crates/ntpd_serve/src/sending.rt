@@ -10,15 +10,19 @@ use crate::ending::{Ending, Failure};
 use edge_traits::{Clock, Grams, Octets, Port, PortFault};
 use mac_keys::KeyTable;
 use net_addr::Addr;
-use server_core::{Response, rate_reply_into, time_reply_into};
+use server_core::{Response, rate_reply_into, read_grams, time_reply_into};
+use std::alloc::Global;
+use sys_vars::Context;
 
-/// Gives the response to what came at this moment. The clock is read once where anything is given,
-/// and a reply to a request for the time is spelled into `lent`, in place of what was there.
+/// Gives the response to what came in this context. The clock is read once where anything is given,
+/// and a reply to a request for the time is spelled into `lent`, in place of what was there. Memory
+/// is taken for the answer to a read of the client list, before the clock is read.
 pub fn send_response<P: Port, C: Clock>(
+    alloc: Global,
     port: &mut P,
     clock: &mut C,
     keys: &KeyTable,
-    came: u64,
+    context: &Context,
     response: &Response,
     to: &Addr,
     lent: &mut Octets,
@@ -26,7 +30,7 @@ pub fn send_response<P: Port, C: Clock>(
     requires most { 1024 ≤ P.most port.old }
     requires givable { IsGivable keys.now response.now }
     ensures gives { (events : List Event) × (readings : List ℕ)
-        × GivesResponse keys.now came response.now result to.now events readings
+        × GivesResponse keys.now context.now response.now result to.now events readings
         × (P.trace port.new ≡ gained (P.trace port.old) events)
         × Grows (C.readings clock.old) (C.readings clock.new) readings }
     ensures causes { Causes result (P.faults port.old) (P.faults port.new)
@@ -37,7 +41,7 @@ pub fn send_response<P: Port, C: Clock>(
         Response::Silent(why) => Ending::Silent(*why),
         Response::Time(ask, basis) => {
             let sent = clock.now();
-            time_reply_into(basis, ask, keys, came, sent, lent);
+            time_reply_into(basis, ask, keys, context.moment, sent, lent);
             send(port, to, lent)
         }
         Response::Rate(ask) => {
@@ -49,6 +53,13 @@ pub fn send_response<P: Port, C: Clock>(
             let _sent = clock.now();
             send_all(port, to, grams)
         }
+        Response::Read(from, head, reply) => match read_grams(alloc, reply, from, head, context) {
+            Err(_) => Ending::Failed(Failure::NoMemory),
+            Ok(grams) => {
+                let _sent = clock.now();
+                send_all(port, to, &grams)
+            }
+        },
     }
 }
 
@@ -91,12 +102,12 @@ fn send_all<P: Port>(port: &mut P, to: &Addr, grams: &Grams) -> Ending
 mod tests {
     use super::*;
     use crate::report::report;
-    use edge_traits::{Event, MemoryClock, MemoryPort, MemorySink};
+    use edge_traits::{Event, MemoryClock, MemoryPort, MemorySink, Salt};
     use fixed_time::Ntp64;
     use mac_keys::Auth;
     use net_addr::Ip;
     use server_core::{Ask, Verdict, response_by};
-    use std::alloc::{AllocError, Global};
+    use std::alloc::AllocError;
     use std::test::Fail;
 
     /// 1 January 1970 (RFC 5905, figure 4).
@@ -133,8 +144,13 @@ mod tests {
         let keys = KeyTable::new(alloc);
         let response = response_by(ASK, verdict);
         let mut gram = Octets::new();
+        let context = Context {
+            salt: Salt([0; 16]),
+            origin: ORIGIN,
+            moment: SECOND,
+        };
         let ending = send_response(
-            &mut port, &mut clock, &keys, SECOND, &response, &ASK.from, &mut gram,
+            alloc, &mut port, &mut clock, &keys, &context, &response, &ASK.from, &mut gram,
         );
         let _status = report(&ending, &mut out);
         gram.clear();
