@@ -5,12 +5,15 @@ use Rattle.edge_traits.specs.declared.port.Event.{Event}
 use Rattle.edge_traits.specs.declared.status.Status.{Status}
 use Rattle.ntpq_client.specs.declared.fault.AskFault.{AskFault}
 use Rattle.ntpq_client.specs.declared.fault.AskFault.TheVariants as Fault
+use Rattle.net_addr.specs.declared.addr.Addr.{Addr}
 use Rattle.ntpq_tool.specs.declared.words.Command.{Command}
+use Rattle.ntpq_tool.specs.declared.words.Wanted.{Wanted}
+use Rattle.ntpq_tool.specs.declared.words.Wanted.TheVariants.{Variables, Associations, Peers, Clients}
 use Rattle.ntpq_tool.specs.declared.ending.Failure.{Failure}
 use Rattle.ntpq_tool.specs.declared.ending.Failure.TheVariants.{Words, Ask, BadReply, NoMemory}
 use Rattle.ntpq_tool.specs.Command.{IsCommand, IsNoCommand}
 use Rattle.ntpq_tool.specs.Ending.{Reports, fault_status, output_of, status_of}
-use Rattle.ntpq_tool.specs.Runs.{EndsBy, Happens, Ran}
+use Rattle.ntpq_tool.specs.Runs.{Happens, Ran}
 
 -- no fault of asking has status 1
 fault-not-1 : (fault : AskFault) → ¬ (fault_status fault ≡ 1)
@@ -30,12 +33,19 @@ words-only (Err (Ask fault)) is = absurd (fault-not-1 fault is)
 words-only (Err BadReply) is = absurd (omega (arith, is))
 words-only (Err NoMemory) is = absurd (omega (arith, is))
 
+-- no command ends by its words
+ran-not-words : (what : Wanted) (server : Addr) (before after : Option (List Event)) → ¬ (Ran what server (Err Words) before after)
+ran-not-words (Variables assoc names) server before after ran = ran.run.ends
+ran-not-words Associations server before after ran = ran.run.ends
+ran-not-words Peers server before after ran = ran.run.ends
+ran-not-words (Clients query) server before after ran = ran.ends
+
 -- a run that ends so had no command
 no-command : (words : List (List ℕ)) (ending : Result (List ℕ) Failure) (before after : Option (List Event)) → Happens words ending before after → ending ≡ Err Words → IsNoCommand words
 no-command words ending before after (inl (same, none, kept)) is = none
 no-command words ending before after (inr (inl (same, kept))) is = absurd (cc (same, is))
 no-command words ending before after (inr (inr (command, read, run))) is =
-    absurd (subst (λ (its : Result (List ℕ) Failure). EndsBy command.what run.run.associations its run.run.to) is run.run.ends)
+    absurd (ran-not-words command.what command.server before after (subst (λ (its : Result (List ℕ) Failure). Ran command.what command.server its before after) is run))
 
 -- a run with status 1 had no command
 pub words-status : (words : List (List ℕ)) (ending : Result (List ℕ) Failure) (status : Status) (before after : Option (List Event)) (old new : Option (List ℕ)) → Happens words ending before after → Reports ending status old new → status.0 ≡ 1 → IsNoCommand words

@@ -19,7 +19,7 @@ use Rattle.ntpq_tool.specs.declared.ending.Failure.{Failure}
 use Rattle.ntpq_tool.specs.declared.ending.Failure.TheVariants.{Words, Ask, BadReply, NoMemory}
 use Rattle.ntpq_tool.specs.declared.words.Wanted.{Wanted}
 use Rattle.ntpq_tool.specs.Answers.{IsBad}
-use Rattle.ntpq_tool.specs.Runs.{EndsBy, IsFull, IsOfServer, IsWant, Ran, Runs}
+use Rattle.ntpq_tool.specs.Runs.{EndsBy, IsFull, IsOfServer, IsWant, RanScript, Runs}
 use Rattle.ntpq_tool.specs.declared.answers.Answer.{Answer}
 use Rattle.ntpq_tool.specs.Scripts.{Course, course_of, due_unless, next_of, script, script_of}
 
@@ -127,8 +127,8 @@ incomplete-only what associations (Err (Ask Fault.Closed)) a ends full good well
 incomplete-only what associations (Err (Ask Fault.NoMemory)) a ends full good well = inr (inr refl)
 
 -- a run is whole
-pub Ran-Runs : (what : Wanted) (server : Addr) (ending : Result (List ℕ) Failure) (before after : Option (List Event)) → Runs what (new_talk server) [] ending before after → Ran what server ending before after
-Ran-Runs what server ending before after run = record {
+pub RanScript-Runs : (what : Wanted) (server : Addr) (ending : Result (List ℕ) Failure) (before after : Option (List Event)) → Runs what (new_talk server) [] ending before after → RanScript what server ending before after
+RanScript-Runs what server ending before after run = record {
   run = run;
   told = λ served are. EachIsTold-Goes (script_of what run.associations) (new_talk server) (course_of []) run.to before run.reached run.goes served are;
   each = λ served are. each-served what run.associations (new_talk server) run.to before run.reached run.goes served are;

@@ -5,10 +5,12 @@ use Rattle.std.specs.Char.{is_ascii_alphanumeric}
 use Rattle.text_words.specs.Numbers.{SpellsNumber}
 use Rattle.net_addr.specs.Spelling.{IsAddr, StandsFor}
 use Rattle.mode6_frame.specs.declared.message.TheConstants.{MAX_BODY}
+use Rattle.mru_items.specs.Queries.{IsQuery}
 use Rattle.ntpq_tool.specs.declared.words.Command.{Command}
 use Rattle.ntpq_tool.specs.declared.words.Wanted.{Wanted}
-use Rattle.ntpq_tool.specs.declared.words.Wanted.TheVariants.{Variables, Associations, Peers}
+use Rattle.ntpq_tool.specs.declared.words.Wanted.TheVariants.{Variables, Associations, Peers, Clients}
 use Rattle.ntpq_tool.specs.declared.words.TheConstants.{NTP_PORT, MAX_ASSOC, MAX_NAME}
+use Rattle.ntpq_tool.specs.Options.{IsQueryOf}
 
 -- an octet of the name of a variable: a letter, a digit, an underscore or a point
 abbrev pub is_name_octet : ℕ → Bool
@@ -40,17 +42,19 @@ pub record NameVariables (words : List (List ℕ)) (assoc : ℕ) (text : List �
 abbrev pub AskVariables : List (List ℕ) → ℕ → List ℕ → Type 0
 AskVariables words assoc text = ((words ≡ []) × (assoc ≡ 0) × (text ≡ [])) ⊎ NameVariables words assoc text
 
--- the words behind the host want this: `rv` and what names variables, `as` alone, or `peers` alone
+-- the words behind the host want this: `rv` and what names variables, `as` alone, `peers` alone, or `mrulist` and options
 abbrev pub AreFor : List (List ℕ) → Wanted → Type 0
 AreFor words (Variables assoc text) =
     (behind : List (List ℕ)) × (words ≡ codes "rv" ∷ behind) × AskVariables behind assoc text
 AreFor words Associations = words ≡ codes "as" ∷ []
 AreFor words Peers = words ≡ codes "peers" ∷ []
+AreFor words (Clients query) = (options : List (List ℕ)) × (words ≡ codes "mrulist" ∷ options) × IsQueryOf options query
 
--- the names that are wanted fit into the body of a request
-abbrev pub FitsBody : Wanted → Type 0
-FitsBody (Variables assoc text) = length text ≤ MAX_BODY
-FitsBody _ = Unit {0}
+-- what is wanted can be asked for: the names of variables fit into the body of a request, and a page may be asked for so
+abbrev pub IsAskable : Wanted → Type 0
+IsAskable (Variables assoc text) = length text ≤ MAX_BODY
+IsAskable (Clients query) = IsQuery query
+IsAskable _ = Unit {0}
 
 -- the words are this command: a text that stands for the server's address, whose port is that of NTP where none is named,
 -- and what is wanted of it

@@ -22,10 +22,11 @@ use Rattle.ntpq_tool.specs.declared.ending.Failure.{Failure}
 use Rattle.ntpq_tool.specs.declared.ending.Failure.TheVariants.{Words, Ask, BadReply, NoMemory}
 use Rattle.ntpq_tool.specs.declared.words.Command.{Command}
 use Rattle.ntpq_tool.specs.declared.words.Wanted.{Wanted}
-use Rattle.ntpq_tool.specs.declared.words.Wanted.TheVariants.{Peers}
+use Rattle.ntpq_tool.specs.declared.words.Wanted.TheVariants.{Variables, Associations, Peers, Clients}
 use Rattle.ntpq_tool.specs.Answers.{ArePeerLines, IsBad, IsReport}
 use Rattle.ntpq_tool.specs.Command.{IsCommand, IsNoCommand}
 use Rattle.ntpq_tool.specs.declared.answers.Answer.{Answer}
+use Rattle.ntpq_tool.specs.Listings.{RanListing}
 use Rattle.ntpq_tool.specs.Scripts.{AreNamed, Course, course_of, script_of}
 
 -- where one that asked a request stands, by what is made of its answer: this report; or a fault, of which a bad reply is an
@@ -115,13 +116,20 @@ pub record IsFull (d : Dialogue Course) (a : Asking Course) : Type 0 where
 -- answer and each refusal that it was told is one of these to the request that it had posted last; so each answer of which
 -- the report is made is one. Where it was refused, or its client has given up or posted all that it may, that is how
 -- it ended, unless memory was wanting.
-pub record Ran (what : Wanted) (server : Addr) (ending : Result (List ℕ) Failure) (before after : Option (List Event)) : Type 0 where
+pub record RanScript (what : Wanted) (server : Addr) (ending : Result (List ℕ) Failure) (before after : Option (List Event)) : Type 0 where
   pub run : Runs what (new_talk server) [] ending before after
   pub told : (served : ℕ → List Served) → AreAnswers server served run.goes.events → EachIsTold (script_of what run.associations) served (ready (new_talk server) (course_of [])) run.goes.events
   pub each : (served : ℕ → List Served) → AreAnswers server served run.goes.events → AllByRecursion (IsOfServer served) run.to.plan.answers
   pub refused_only : (code : ℕ) → run.to.plan.refused ≡ Some code → (ending ≡ Err (Ask (Refused code))) ⊎ IsWant ending
   pub stuck_only : (fault : AskFault) → stuck run.to.talk ≡ Some fault → (ending ≡ Err (Ask fault)) ⊎ IsWant ending
   pub incomplete_only : IsFull (script_of what run.associations) run.to → ¬ (IsBad what run.associations run.to.plan.answers) → ending ≢ Err (Ask Port) → (ending ≡ Err (Ask Fault.Incomplete)) ⊎ IsWant ending
+
+-- a command ran with a new client of its server: it asked its requests, one after another, or listed the clients
+abbrev pub Ran : Wanted → Addr → Result (List ℕ) Failure → Option (List Event) → Option (List Event) → Type 0
+Ran (Variables assoc names) = RanScript (Variables assoc names)
+Ran Associations = RanScript Associations
+Ran Peers = RanScript Peers
+Ran (Clients query) = RanListing query
 
 -- what happens at the port, by the words: nothing where they are no command, or where there is no memory to read them; else
 -- their command runs

@@ -2,13 +2,14 @@
 use Rattle.std.specs.Prelude.{◌≡◌, ◌⊎◌, ℕ, Option, None, Some, List, [], ◌∷◌, ◌++◌, length, drop}
 use Rattle.mode6_frame.specs.declared.operations.TheConstants.{OP_READ_STATUS, OP_READ_VARIABLES}
 use Rattle.ntpq_client.specs.declared.request.Request.{Request}
+use Rattle.ntpq_client.specs.declared.request.TheConstants.{REQUEST_VERSION}
 use Rattle.ntpq_client.specs.Dialogues.{Dialogue}
 use Rattle.ntpq_report.specs.declared.associations.AssociationStatus.{AssociationStatus}
 use Rattle.ntpq_report.specs.Associations.{IsStatusBody}
 use Rattle.ntpq_tool.specs.declared.answers.Answer.{Answer}
-use Rattle.ntpq_tool.specs.declared.requests.TheConstants.{REQUEST_VERSION, PEER_VARIABLES}
+use Rattle.ntpq_tool.specs.declared.requests.TheConstants.{PEER_VARIABLES}
 use Rattle.ntpq_tool.specs.declared.words.Wanted.{Wanted}
-use Rattle.ntpq_tool.specs.declared.words.Wanted.TheVariants.{Variables, Associations, Peers}
+use Rattle.ntpq_tool.specs.declared.words.Wanted.TheVariants.{Variables, Associations, Peers, Clients}
 
 -- how far a command has come: the answers that it took, oldest first, and the error code by which it was refused, if it was
 pub record Course : Type 0 where
@@ -56,7 +57,8 @@ peer_due [] = None
 peer_due (a ∷ associations) = Some (peer_request a.assoc)
 
 -- The request that is due after these answers: the variables, once; the associations, once; or the associations, and then
--- what a line shows of each, in their order. These are the associations that the first answer names.
+-- what a line shows of each, in their order. These are the associations that the first answer names. A listing of clients
+-- has a dialogue of its own.
 abbrev pub next_of : Wanted → List AssociationStatus → List Answer → Option Request
 next_of (Variables assoc names) associations [] = Some (variables_request assoc names)
 next_of Associations associations [] = Some status_request
@@ -64,6 +66,7 @@ next_of Peers associations [] = Some status_request
 next_of Peers associations (first ∷ answers) = peer_due (drop (length answers) associations)
 next_of (Variables assoc names) associations (first ∷ answers) = None
 next_of Associations associations (first ∷ answers) = None
+next_of (Clients query) associations answers = None
 
 -- the dialogue of a command
 abbrev pub script_of : Wanted → List AssociationStatus → Dialogue Course

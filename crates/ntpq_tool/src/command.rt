@@ -4,12 +4,13 @@ ghost use Rattle.edge_traits.specs.Told.{gained, Rose};
 ghost use Rattle.mode6_frame.specs.declared.message.TheConstants.{HEAD_LEN, MAX_BODY};
 ghost use Rattle.ntpq_client.specs.declared.client.TheConstants.{MAX_QUIETS};
 ghost use Rattle.ntpq_client.specs.declared.fault.AskFault.{AskFault};
-ghost use Rattle.ntpq_tool.specs.Command.{FitsBody, IsCommand, IsNoCommand};
+ghost use Rattle.ntpq_tool.specs.Command.{IsAskable, IsCommand, IsNoCommand};
 ghost use Rattle.ntpq_tool.specs.Ending.{Reports};
 ghost use Rattle.ntpq_tool.specs.Runs.{Behind, Happens, Ran};
 ghost use Rattle.ntpq_tool.specs.declared.ending.Failure.{Failure};
 ghost use Rattle.ntpq_tool.specs.declared.words.Command.{Command};
 
+use crate::clients::list_clients;
 use crate::ending::{Ending, Failure};
 use crate::inquiries::{ask_associations, ask_variables};
 use crate::peers::ask_peers;
@@ -40,7 +41,7 @@ fn run_words<P: Port>(alloc: Global, words: &[String], port: &mut P) -> Ending
 /// Asks what is wanted of the server, and makes the report of the answers.
 fn run<P: Port>(alloc: Global, command: Command, port: &mut P) -> Ending
     requires most { HEAD_LEN + MAX_BODY ≤ P.most port.old }
-    requires fits { FitsBody command.what }
+    requires askable { IsAskable command.what }
     ensures ran { Ran command.what command.server result (P.trace port.old) (P.trace port.new) }
     ensures causes { Behind result (P.faults port.old) (P.faults port.new)
         (P.is_closed port.new) }
@@ -56,13 +57,15 @@ fn run<P: Port>(alloc: Global, command: Command, port: &mut P) -> Ending
         }
         Wanted::Associations => ask_associations(alloc, &mut client, port),
         Wanted::Peers => ask_peers(alloc, &mut client, port),
+        Wanted::Clients { query } => list_clients(alloc, &mut client, &query, port),
     }
 }
 
 /// The program, over any port and sink: the words that follow its name are its command.
 ///
 /// `HOST rv`, `HOST rv A` and `HOST rv A NAME ..` ask for variables, `HOST as` for the
-/// associations, `HOST peers` for a line of each. The report is written once all answers were
+/// associations, `HOST peers` for a line of each, `HOST mrulist OPTION ..` for a line of each of the
+/// server's clients. The report is written once all answers were
 /// taken, and only then.
 pub fn ntpq<P: Port, S: Sink>(alloc: Global, words: &[String], port: &mut P, out: &mut S) -> Status
     requires most { HEAD_LEN + MAX_BODY ≤ P.most port.old }

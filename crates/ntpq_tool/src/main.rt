@@ -1,19 +1,25 @@
 //! The program `ntpq`: it asks an NTP server of its state by control messages, and prints the
 //! answers.
 //!
-//! Layer 7. Stands on: `ntpq_client`, `ntpq_report`, `mode6_frame`, `text_words`,
-//! `command_line`, `edge_traits`, `net_addr`.
+//! Layer 7. Stands on: `ntpq_report`, `mrulist_run`, `mrulist_reader`, `ntpq_client`, `mru_items`,
+//! `mode6_frame`, `text_words`, `command_line`, `edge_traits`, `net_addr`.
 //! Promises: exactly the requests of the command are sent; a report is printed of the answers to
-//! them, and only where all were taken; each status has its cause.
+//! them, and only where all were taken; a report of clients is that of a listing that ran; each
+//! status has its cause.
 #![tactic(auto)]
 
 mod answers;
+mod clients;
 mod command;
 mod ending;
 mod inquiries;
+mod masks;
+mod options;
 mod peers;
 mod report;
 mod requests;
+#[cfg(test)]
+mod tests;
 mod usage;
 mod words;
 

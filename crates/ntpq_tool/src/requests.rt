@@ -5,11 +5,8 @@ ghost use Rattle.ntpq_tool.specs.Scripts.{peer_request, status_request, variable
 
 use edge_traits::Text;
 use mode6_frame::{MAX_BODY, OP_READ_STATUS, OP_READ_VARIABLES};
-use ntpq_client::Request;
+use ntpq_client::{REQUEST_VERSION, Request};
 use std::alloc::{AllocError, Global};
-
-/// The version of all requests (our own rule).
-pub const REQUEST_VERSION: u8 = 2;
 
 /// The variables that the line of a peer shows, joined by commas (our own rule).
 pub const PEER_VARIABLES: &[u8] = b"srcadr,refid,stratum,hpoll,reach,delay,offset,jitter";

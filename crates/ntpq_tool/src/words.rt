@@ -5,8 +5,10 @@ ghost use Rattle.ntpq_tool.specs.declared.words.Command.{Command};
 ghost use Rattle.ntpq_tool.specs.declared.words.Wanted.{Wanted};
 ghost use Rattle.ntpq_tool.specs.Command.{IsCommand, IsNoCommand, AreFor, IsName, is_name_octet, joined};
 
+use crate::options::read_query;
 use edge_traits::Text;
 use mode6_frame::MAX_BODY;
+use mru_items::Query;
 use net_addr::{Addr, read_text};
 use std::alloc::{AllocError, Global};
 use text_words::read_decimal_within;
@@ -37,6 +39,8 @@ pub enum Wanted {
     Associations,
     /// A line for each association.
     Peers,
+    /// A line for each client of the server.
+    Clients { query: Query },
 }
 
 /// The command of these words, which follow the program's name.
@@ -83,6 +87,9 @@ fn read_wanted(alloc: Global, words: &[String]) -> Result<Option<Wanted>, AllocE
     if name == b"rv".as_slice() {
         return read_variables(alloc, behind);
     }
+    if name == b"mrulist".as_slice() {
+        return Ok(read_clients(behind));
+    }
     if behind.is_empty() {
         return Ok(read_alone(name));
     }
@@ -91,7 +98,8 @@ fn read_wanted(alloc: Global, words: &[String]) -> Result<Option<Wanted>, AllocE
 
 /// What a word wants that stands alone.
 fn read_alone(name: &[u8]) -> Option<Wanted>
-    requires { ¬ (name.now ≡ codes "rv") }
+    requires variables { ¬ (name.now ≡ codes "rv") }
+    requires clients { ¬ (name.now ≡ codes "mrulist") }
     ensures found { IfSome result (AreFor (name.now ∷ [])) }
     ensures only { (wanted : Wanted) → AreFor (name.now ∷ []) wanted → result ≡ Some wanted }
 {
@@ -102,6 +110,17 @@ fn read_alone(name: &[u8]) -> Option<Wanted>
     } else {
         None
     }
+}
+
+/// The clients that the words behind `mrulist` want.
+fn read_clients(words: &[String]) -> Option<Wanted>
+    ensures found { IfSome result (AreFor (codes "mrulist" ∷ map string_bytes words.now)) }
+    ensures only { (wanted : Wanted) → AreFor (codes "mrulist" ∷ map string_bytes words.now) wanted
+        → result ≡ Some wanted }
+{
+    Some(Wanted::Clients {
+        query: read_query(words)?,
+    })
 }
 
 /// The variables that the words behind `rv` want.
