@@ -4,5 +4,6 @@ mod book;
 mod classing;
 mod control;
 mod exchanges;
+mod reads;
 mod reply;
 mod responding;

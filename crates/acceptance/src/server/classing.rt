@@ -19,7 +19,7 @@ const REQUEST: [u8; 48] = *b"\x23\x00\x06\xe9\
 fn time_asked(class: &Class) -> Option<Ask> {
     match class {
         Class::Time(ask) => Some(*ask),
-        Class::Silent(_) | Class::Look(_) => None,
+        Class::Silent(_) | Class::Look(_) | Class::Read(_) => None,
     }
 }
 

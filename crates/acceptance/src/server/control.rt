@@ -1,7 +1,7 @@
 use edge_traits::Salt;
 use fixed_time::Ntp64;
 use mac_keys::KeyTable;
-use mode6_frame::{BAD_FORMAT, BAD_OPERATION};
+use mode6_frame::{BAD_FORMAT, BAD_OPERATION, OP_READ_NONCE};
 use net_addr::{Addr, Ip};
 use server_core::{Class, classify};
 use std::alloc::{AllocError, Global};
@@ -14,7 +14,7 @@ const CLIENT: Addr = Addr {
 };
 
 /// What a control message asks for: the numbers of variables, or behind a 0 an error code, or
-/// nothing behind two.
+/// a 0 for a status or 12 for a nonce.
 fn asked_for(alloc: Global, datagram: &[u8]) -> Result<Vec<u8>, AllocError> {
     let context = Context {
         salt: Salt([0; 16]),
@@ -26,6 +26,7 @@ fn asked_for(alloc: Global, datagram: &[u8]) -> Result<Vec<u8>, AllocError> {
         Class::Look(asked) => match asked.what {
             What::Status => Vec::from_slice(alloc, &[0, 0]),
             What::Vars(numbers) => Vec::from_slice(alloc, numbers.as_slice()),
+            What::Nonce => Vec::from_slice(alloc, &[0, OP_READ_NONCE]),
             What::Bad(code) => Vec::from_slice(alloc, &[0, code]),
         },
         _ => Vec::from_slice(alloc, b"none"),
@@ -47,6 +48,8 @@ fn names_are_asked_for_by_their_numbers(rt: HostRuntime) -> Result<(), Fail> {
 fn the_operation_goes_before_the_body(rt: HostRuntime) -> Result<(), Fail> {
     let status = b"\x16\x01\x00\x01\x00\x00\x00\x00\x00\x00\x00\x01=\x00\x00\x00";
     assert!(rt; asked_for(rt.alloc(), status)?.as_slice() == [0, 0].as_slice());
+    let nonce = b"\x16\x0c\x00\x01\x00\x00\x00\x00\x00\x00\x00\x01=\x00\x00\x00";
+    assert!(rt; asked_for(rt.alloc(), nonce)?.as_slice() == [0, OP_READ_NONCE].as_slice());
     let write = b"\x16\x03\x00\x01\x00\x00\x00\x00\x00\x00\x00\x01=\x00\x00\x00";
     assert!(rt; asked_for(rt.alloc(), write)?.as_slice() == [0, BAD_OPERATION].as_slice());
     Ok(())

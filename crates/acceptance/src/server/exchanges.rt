@@ -142,6 +142,8 @@ fn octets_given(keys: &KeyTable, response: &Response) -> Octets
                 append(&mut all, grams.get(i).as_slice());
             }
         }
+        // Its datagrams are made elsewhere.
+        Response::Read(..) => {}
     }
     all
 }
@@ -251,6 +253,13 @@ fn a_control_request_gets_its_answer(rt: HostRuntime) -> Result<(), Fail> {
         (
             b"\x16\x03\x00\x01\x00\x00\x00\x00\x00\x00\x00\x00".as_slice(),
             b"\x16\xc3\x00\x01\x03\x00\x00\x00\x00\x00\x00\x00".as_slice(),
+        ),
+        // The digest of 16 zero octets, the address and the time, by Python's hashlib.
+        (
+            b"\x16\x0c\x00\x01\x00\x00\x00\x00\x00\x00\x00\x00".as_slice(),
+            b"\x16\x8c\x00\x01\xc0\x11\x00\x00\x00\x00\x00\x20\
+                nonce=83aa7e8100000000694741e8\r\n"
+                .as_slice(),
         ),
     ] {
         assert!(rt; answers(rt.alloc(), request, answer)?, "{request:?}");

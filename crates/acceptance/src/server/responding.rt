@@ -36,6 +36,7 @@ fn letter_of(response: &Response) -> u8 {
         Response::Time(..) => b'T',
         Response::Rate(_) => b'R',
         Response::Grams(_) => b'G',
+        Response::Read(..) => b'P',
     }
 }
 
