@@ -88,20 +88,34 @@ def clause_text(lines, at):
     return text
 
 
+def past_ghost(lines, row):
+    """The line behind the ghost parameter or ghost import that begins in this line."""
+    depth = 0
+    while row < len(lines):
+        depth += lines[row].count("{") - lines[row].count("}")
+        row += 1
+        if depth <= 0:
+            break
+    return row
+
+
 def header(lines, at, indent):
     """The clauses of the function that begins in this line, and the names of those that promise."""
     clauses, promises, row = {}, [], at
     while row < len(lines):
         line = lines[row]
+        if line.lstrip().startswith("ghost"):
+            row = past_ghost(lines, row)
+            continue
         clause = CLAUSE.match(line)
         if clause:
             name = clause.group(2) or ""
             clauses[name] = clauses.get(name, "") + clause_text(lines, row)
             promises += [name] if clause.group(1) == "ensures" else []
-        elif re.match(" {%d}[{}]" % indent, line) or (line.endswith("{") and not line.lstrip().startswith("ghost")):
+        elif re.match(" {%d}[{}]" % indent, line) or line.endswith("{"):
             break
         # A method of a trait ends without a body.
-        if line.endswith(";") and line.count("{") == line.count("}") and not line.lstrip().startswith("ghost"):
+        if line.endswith(";") and line.count("{") == line.count("}"):
             break
         row += 1
     return clauses, promises
