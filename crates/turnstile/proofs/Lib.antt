@@ -1,0 +1,5 @@
+mod Sums
+mod Keeps
+mod Walks
+mod Calls
+mod Gathers
