@@ -9,11 +9,11 @@ use Rattle.server_core.specs.declared.step.StepFault.{StepFault}
 use Rattle.server_core.specs.declared.step.StepFault.TheVariants.{NoMemory}
 use Rattle.server_core.specs.Books.{BookParts, MayWant, stepped}
 use Rattle.server_core.specs.States.{ServerState, refusal_of, reply_to, state_after}
+use Rattle.turnstile.specs.Histories.{state_after as after_each}
 
 -- the server after operations, one after another
 abbrev pub state_after_all : ServerState → List Op → ServerState
-state_after_all s [] = s
-state_after_all s (op ∷ ops) = state_after_all (state_after s op) ops
+state_after_all s ops = after_each state_after s ops
 
 -- the server after the first so many of these operations
 abbrev pub state_at : ServerState → List Op → ℕ → ServerState

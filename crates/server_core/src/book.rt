@@ -1,7 +1,9 @@
 ghost use Rattle.std.specs.Prelude.{◌≡◌, ◌<◌, [], length, IfOk};
 ghost use Rattle.recency.specs.Rows.{IsClientList, find_row};
+ghost use Rattle.server_core.specs.States.{stop_in};
 
 use crate::journal::Journal;
+use crate::op::Stop;
 use fixed_time::Ntp64;
 use net_addr::Ip;
 use recency::{Limits, PlainList, Recency, Row, Steps};
@@ -24,7 +26,9 @@ pub struct Book {
 }
 
 impl Model for Book {
+    ghost use Rattle.std.specs.Prelude.{◌+◌, ◌≤◌, length};
     ghost use Rattle.recency.specs.Rows.{IsClientList};
+    ghost use Rattle.server_core.specs.declared.op.TheConstants.{MAX_ENTRIES};
     ghost use Rattle.server_core.specs.Books.{BookParts};
     ghost use Rattle.server_core.specs.Journals.{published_in};
 
@@ -42,7 +46,8 @@ impl Model for Book {
     } };
 
     ghost invariant = { λ b. IsClientList (⟦<PlainList as Recency>⟧.limits b.list)
-        (⟦<PlainList as Recency>⟧.rows b.list) b.stamp };
+        (⟦<PlainList as Recency>⟧.rows b.list) b.stamp
+        × (length b.journal ≤ MAX_ENTRIES + 1) };
 }
 
 impl Book {
@@ -94,6 +99,13 @@ impl Book {
         ensures { result.now ≡ self.now.journal }
     {
         &self.journal
+    }
+
+    /// Who stopped the server, and why, where it was stopped.
+    pub fn stop(&self) -> Option<Stop>
+        ensures { result ≡ stop_in self.now.journal }
+    {
+        self.journal.stop()
     }
 
     /// The record that is published.

@@ -1,4 +1,4 @@
-ghost use Rattle.std.specs.Prelude.{◌≡◌, ◌≤◌, ◌<◌, Some, List, [], ◌∷◌, ◌++◌, length, IfOk, slice_get};
+ghost use Rattle.std.specs.Prelude.{◌≡◌, ◌+◌, ◌≤◌, ◌<◌, Some, List, [], ◌∷◌, ◌++◌, length, IfOk, slice_get};
 ghost use Rattle.server_core.specs.declared.op.Op.{Op};
 ghost use Rattle.server_core.specs.States.{publications_in, record_of, stop_in};
 ghost use Rattle.server_core.specs.Journals.{CanTake, IsIndexed, published_in};
@@ -107,7 +107,8 @@ impl Journal {
     /// Takes one operation more. Its room was taken in the beginning.
     pub(crate) fn push(&mut self, op: Op)
         requires { CanTake self.old op }
-        ensures { self.new ≡ self.old ++ op ∷ [] }
+        ensures entered { self.new ≡ self.old ++ op ∷ [] }
+        ensures most { length self.new ≤ MAX_ENTRIES + 1 }
     {
         let place = self.len();
         self.index = index_with(self.index, &op, place);

@@ -3,7 +3,7 @@
 //!
 //! Layer 5. Stands on: `mru_read`, `recency`, `access_rules`, `sys_vars`, `mru_items`,
 //! `mode6_nonce`, `mode6_frame`, `ntp_packet`, `ntp_trailer`, `mac_keys`, `discipline`,
-//! `edge_traits`, `net_addr`, `fixed_time`.
+//! `edge_traits`, `net_addr`, `turnstile`, `fixed_time`.
 //! Promises: every datagram has exactly one class; whatever operations the book takes, each reply
 //! and the state after it are those of one definition, and the client list has a history of
 //! moves, as reads can tell; a reply has a MAC where the request has a good one, and a crypto-NAK
@@ -29,6 +29,7 @@ pub mod reply;
 pub mod request;
 pub mod responding;
 pub mod response;
+pub mod sharing;
 pub mod step;
 mod stepping;
 pub mod telling;
@@ -46,6 +47,7 @@ pub use reply::{Basis, time_reply, time_reply_into};
 pub use request::{Call, Request};
 pub use responding::{call_of, respond, response_by, response_on, response_to, response_with};
 pub use response::{Response, Silence};
+pub use sharing::BookState;
 pub use step::{Reply, StepFault};
 pub use telling::read_grams;
 pub use verdict::Verdict;

@@ -1,4 +1,5 @@
-ghost use Rattle.std.specs.Prelude.{◌≡◌, ◌<◌, ◌⊎◌, [], ◌∷◌, ◌++◌, None, IfOk, OnOk, OnErr, MatchResult};
+ghost use Rattle.std.specs.Prelude.{◌≡◌, ◌+◌, ◌<◌, ◌≤◌, ◌⊎◌, [], ◌∷◌, ◌++◌, length, None, IfOk, OnOk, OnErr, MatchResult};
+ghost use Rattle.server_core.specs.declared.op.TheConstants.{MAX_ENTRIES};
 ghost use Rattle.server_core.specs.Books.{IsShort, IsTellableReply, MayWant};
 ghost use Rattle.server_core.specs.States.{refusal_of, reply_to, rows_after, stamp_after, state_after};
 
@@ -33,6 +34,7 @@ impl Book {
         ensures entered { OnOk result (self.new.journal ≡ self.old.journal ++ op ∷ []) }
         ensures short { IfOk result IsShort }
         ensures tellable { IfOk result IsTellableReply }
+        ensures most { length self.new.journal ≤ MAX_ENTRIES + 1 }
         ensures kept { OnErr result (self.new ≡ self.old) }
     {
         if let Some(fault) = refusal(&self.journal, self.stamp, &op) {
