@@ -1,29 +1,32 @@
--- How silences add up at a port.
-use Rattle.std.proofs.Common.{◌≡◌, ℕ, ◌+◌, ◌<◌, ◌≤◌, length, Option, Some, None, List, [], ◌∷◌, ◌++◌, append_assoc, replicate, zero, suc, Bool, inl, inr, refl, sym, ap, subst, ◌∙◌, arith}
-use Rattle.std.specs.Prelude.{slice_index_or, take}
-use Rattle.std.specs.List.{AllByRecursion}
-use Rattle.std.proofs.lemmas.List.{append-nil, replicate_more, map-append, take_more, take_all}
+-- How silences and gives add up at a port.
+use Rattle.std.proofs.Common.{◌≡◌, ◌≢◌, ℕ, ◌+◌, ◌<◌, ◌≤◌, length, Option, Some, None, List, [], ◌∷◌, ◌++◌, append_assoc, replicate, take, zero, suc, Bool, inl, inr, refl, sym, ap, subst, ◌∙◌, arith}
+use Rattle.std.proofs.lemmas.List.{append-nil, replicate_more, take_all}
 use Rattle.mac_keys.specs.declared.keys.Key.{Key}
 use Rattle.net_addr.specs.declared.addr.Addr.{Addr}
 use Rattle.edge_traits.specs.Told.{gained, Grows, Rose}
 use Rattle.edge_traits.proofs.ToldLemmas.{gained-gained}
 use Rattle.edge_traits.specs.declared.port.Event.{Event}
-use Rattle.edge_traits.specs.declared.port.Event.TheVariants.{Silence, Took, Sent}
+use Rattle.edge_traits.specs.declared.port.Event.TheVariants.{Silence, Took}
 use Rattle.edge_traits.specs.declared.status.Status.{Status}
 use Rattle.sys_vars.specs.declared.context.Context.{Context}
 use Rattle.server_core.specs.States.{ServerState}
 use Rattle.server_core.specs.declared.response.Response.{Response}
-use Rattle.server_core.specs.declared.response.Response.TheVariants.{Silent as NoAnswer}
+use Rattle.server_core.specs.declared.response.Response.TheVariants.{Silent as NoAnswer, Time, Rate, Grams, Read}
 use Rattle.server_core.specs.declared.response.Silence.{Silence as Reason}
-use Rattle.server_core.specs.Responses.{IsResponse}
+use Rattle.server_core.specs.Responses.{IsGivable, IsResponse, grams_of}
+use Rattle.giving.specs.Gives.{sent_events}
+use Rattle.giving.specs.declared.given.GiveEnd.{GiveEnd}
+use Rattle.giving.specs.declared.given.GiveEnd.TheVariants.{Whole, Failed as PortFailed, NoMemory as NoRoom}
+use Rattle.giving.proofs.GiveLemmas.{read-some}
+use Rattle.shared_book.specs.Contexts.{context_at}
+use Rattle.shared_book.specs.declared.common.Common.{Common}
 use Rattle.ntpd_serve.specs.Ending.{Reports}
 use Rattle.ntpd_serve.specs.declared.once.TheConstants.{PATIENCE}
 use Rattle.ntpd_serve.specs.declared.ending.Ending.{Ending}
 use Rattle.ntpd_serve.specs.declared.ending.Ending.TheVariants.{Answered, Silent, Failed}
 use Rattle.ntpd_serve.specs.declared.ending.Failure.{Failure}
 use Rattle.ntpd_serve.specs.declared.ending.Failure.TheVariants.{Words, Host, Port, Quiet, Closed, NoMemory}
-use Rattle.ntpd_serve.specs.declared.once.Common.{Common}
-use Rattle.ntpd_serve.specs.Once.{silences, sent_events, context_at, IsAnswer, IsMade, IsUnanswered, Follows, GivesResponse, GivesAll, OnlySilences, Happens, Causes, HasCome, IsServed}
+use Rattle.ntpd_serve.specs.Once.{silences, IsAnswer, Follows, OnlySilences, Happens, Causes, HasCome, IsServed}
 
 -- no silence yet
 pub gained-no_silence : (told : Option (List Event)) → told ≡ gained told (silences 0)
@@ -58,11 +61,6 @@ Grows-Grows None (Some between) (Some new) first second one two = absurd one
 Grows-Grows (Some old) (Some between) (Some new) first second one two =
     two ∙ ap (λ (told : List ℕ). told ++ second) one ∙ append_assoc old first second
 
--- nothing gained
-pub gained-nothing : (told : Option (List Event)) → told ≡ gained told []
-gained-nothing None = refl
-gained-nothing (Some told) = sym (ap Some (append-nil told))
-
 -- no reading
 pub Grows-nothing : (told : Option (List ℕ)) → Grows told told []
 Grows-nothing None = tt
@@ -73,41 +71,41 @@ pub Happens-no_memory : (common : Common) → Happens common (Failed NoMemory) [
 unfolding silences
 Happens-no_memory common = inr (NoMemory, refl, (0, omega arith, refl), refl)
 
--- a datagram that gets no answer
-IsUnanswered-response : (common : Common) (s : ServerState) (from : Addr) (octets : List ℕ) (came : ℕ) (response : Response) (why : Reason) (events : List Event) (readings : List ℕ) → IsResponse s common.keys (context_at common came) from octets response → response ≡ NoAnswer why → events ≡ [] → readings ≡ [] → IsUnanswered common s from octets why events (came ∷ readings)
-IsUnanswered-response common s from octets came response why events readings is same nothing unread = record {
-  came = came;
-  read = ap (λ (more : List ℕ). came ∷ more) unread;
-  is_response = subst (IsResponse s common.keys (context_at common came) from octets) same is;
-  none = nothing;
-}
+-- a response that can be given has a datagram, unless it is none
+pub grams-some : (keys : List Key) (context : Context) (sent : ℕ) (response : Response) → IsGivable keys response → ((why : Reason) → response ≢ NoAnswer why) → 0 < length (grams_of keys context sent response)
+grams-some keys context sent (NoAnswer why) can heard = absurd (heard why refl)
+grams-some keys context sent (Time ask basis) can heard = omega arith
+grams-some keys context sent (Rate ask) can heard = omega arith
+grams-some keys context sent (Grams grams) can heard = can.0
+grams-some keys context sent (Read from head reply) can heard = read-some reply from head context can.0
 
--- a datagram that is answered
-IsAnswer-response : (common : Common) (s : ServerState) (from : Addr) (octets : List ℕ) (came sent : ℕ) (response : Response) (grams : List (List ℕ)) (readings : List ℕ) → IsResponse s common.keys (context_at common came) from octets response → IsMade common.keys (context_at common came) sent response grams → readings ≡ sent ∷ [] → IsAnswer common s from octets (came ∷ readings) grams
-IsAnswer-response common s from octets came sent response grams readings is made read = record {
+-- a datagram whose response is given at this moment is answered
+pub IsAnswer-response : (common : Common) (s : ServerState) (from : Addr) (octets : List ℕ) (came sent : ℕ) (context : Context) (response : Response) → context ≡ context_at common came → IsResponse s common.keys (context_at common came) from octets response
+    → 0 < length (grams_of common.keys context sent response) → IsAnswer common s from octets (came ∷ sent ∷ []) (grams_of common.keys context sent response)
+IsAnswer-response common s from octets came sent context response here is some = record {
   response = response;
   came = came;
   sent = sent;
-  read = ap (λ (more : List ℕ). came ∷ more) read;
+  read = refl;
   is_response = is;
-  made = made;
+  made = (ap (λ (k : Context). grams_of common.keys k sent response) (sym here), some);
 }
 
--- what is done about the response to a datagram is what follows it
-pub Follows-GivesResponse : (common : Common) (s : ServerState) (from : Addr) (octets : List ℕ) (came : ℕ) (response : Response) (ending : Ending) (events : List Event) (readings : List ℕ) → IsResponse s common.keys (context_at common came) from octets response → GivesResponse common.keys (context_at common came) response ending from events readings → Follows common s ending from octets events (came ∷ readings)
-Follows-GivesResponse common s from octets came response (Answered count) events readings is (grams, sent, made, given, read) =
-    (grams, IsAnswer-response common s from octets came sent response grams readings is made read, given.0, given.1)
-Follows-GivesResponse common s from octets came response (Silent why) events readings is (same, none, unread) =
-    IsUnanswered-response common s from octets came response why events readings is same none unread
-Follows-GivesResponse common s from octets came response (Failed Port) events readings is (grams, sent, made, given, read) =
-    (grams, IsAnswer-response common s from octets came sent response grams readings is made read, given)
-Follows-GivesResponse common s from octets came response (Failed NoMemory) events readings is (inl (none, unread)) = inl none
-Follows-GivesResponse common s from octets came response (Failed NoMemory) events readings is (inr (grams, sent, made, given, read)) =
-    inr (grams, IsAnswer-response common s from octets came sent response grams readings is made read, given)
-Follows-GivesResponse common s from octets came response (Failed Words) events readings is (grams, sent, made, given, read) = absurd given
-Follows-GivesResponse common s from octets came response (Failed Host) events readings is (grams, sent, made, given, read) = absurd given
-Follows-GivesResponse common s from octets came response (Failed Quiet) events readings is (grams, sent, made, given, read) = absurd given
-Follows-GivesResponse common s from octets came response (Failed Closed) events readings is (grams, sent, made, given, read) = absurd given
+-- so many datagrams of its answer were given, and the call ends by how the giving did
+pub Follows-given : (common : Common) (s : ServerState) (from : Addr) (octets readings : List ℕ) (grams : List (List ℕ)) (count : ℕ) (end : GiveEnd) (ending : Ending) → IsAnswer common s from octets readings grams
+    → (end ≡ Whole → count ≡ length grams) → (end ≢ Whole → count < length grams)
+    → (end ≡ Whole → ending ≡ Answered count) → (end ≡ PortFailed → ending ≡ Failed Port) → (end ≡ NoRoom → ending ≡ Failed NoMemory)
+    → Follows common s ending from octets (sent_events from (take count grams)) readings
+Follows-given common s from octets readings grams count Whole ending answer all cut whole failed wanting =
+    let enough : length grams ≤ count = omega (arith, all refl) in
+    subst (λ (e : Ending). Follows common s e from octets (sent_events from (take count grams)) readings) (sym (whole refl))
+    (grams, answer, ap (sent_events from) (take_all count grams enough), all refl)
+Follows-given common s from octets readings grams count PortFailed ending answer all cut whole failed wanting =
+    subst (λ (e : Ending). Follows common s e from octets (sent_events from (take count grams)) readings) (sym (failed refl))
+    (grams, answer, (count, cut (λ same. absurd (cc same)), refl))
+Follows-given common s from octets readings grams count NoRoom ending answer all cut whole failed wanting =
+    subst (λ (e : Ending). Follows common s e from octets (sent_events from (take count grams)) readings) (sym (wanting refl))
+    (inr (grams, answer, (count, cut (λ same. absurd (cc same)), refl)))
 
 -- among silences alone there is no datagram
 no_datagram : (n : ℕ) (before after : List Event) (from : Addr) (octets : List ℕ) → replicate n Silence ≡ before ++ Took from octets ∷ after → ⊥
@@ -140,39 +138,3 @@ IsServed-HasCome common (Silent why) events readings status faults faults' quiet
 IsServed-HasCome common (Failed NoMemory) events readings status faults faults' quiets quiets' is_closed sink sink' old new (inl comes) causes (inl (is, whole)) failed came port_well sink_well = inr is
 IsServed-HasCome common (Failed Port) events readings status faults faults' quiets quiets' is_closed sink sink' old new (inl comes) causes (inl (is, whole)) failed came port_well sink_well = absurd (port_well (causes.failed refl))
 IsServed-HasCome common (Failed _) events readings status faults faults' quiets quiets' is_closed sink sink' old new (inl comes) causes (inl (is, whole)) failed came port_well sink_well = absurd comes.follows
-
--- datagrams that were given, or could not be, are what is done about a response that is just these
-pub GivesResponse-all : (keys : List Key) (context : Context) (sent : ℕ) (response : Response) (ending : Ending) (to : Addr) (grams : List (List ℕ)) (events : List Event) → IsMade keys context sent response grams → GivesAll ending to grams events → GivesResponse keys context response ending to events (sent ∷ [])
-GivesResponse-all keys context sent response (Answered count) to grams events made gives = (grams, sent, made, gives, refl)
-GivesResponse-all keys context sent response (Silent why) to grams events made gives = absurd gives
-GivesResponse-all keys context sent response (Failed NoMemory) to grams events made gives = inr (grams, sent, made, gives, refl)
-GivesResponse-all keys context sent response (Failed why) to grams events made gives = (grams, sent, made, gives, refl)
-
--- one datagram more was given
-pub gained-sent : (old between new : Option (List Event)) (to : Addr) (grams : List (List ℕ)) (place : ℕ) (gram : List ℕ) → place < length grams → gram ≡ slice_index_or grams place gram
-    → between ≡ gained old (sent_events to (take place grams)) → new ≡ gained between (Sent to gram ∷ []) → new ≡ gained old (sent_events to (take (place + 1) grams))
-gained-sent old between new to grams place gram within is before then =
-    then ∙ ap (λ (told : Option (List Event)). gained told (Sent to gram ∷ [])) before
-    ∙ gained-gained old (sent_events to (take place grams)) (Sent to gram ∷ [])
-    ∙ ap (gained old) (ap (λ (last : List ℕ). sent_events to (take place grams) ++ Sent to last ∷ []) is
-    ∙ sym (map-append (λ (sent : List ℕ). Sent to sent) (take place grams) (slice_index_or grams place gram ∷ []))
-    ∙ sym (ap (sent_events to) (take_more grams place gram within)))
-
--- datagrams of so many octets at most have as many as a longer give may have
-pub each-fits : (few most : ℕ) (grams : List (List ℕ)) → few ≤ most → AllByRecursion (λ gram. length gram ≤ few) grams → AllByRecursion (λ gram. length gram ≤ most) grams
-each-fits few most [] more are = tt
-each-fits few most (gram ∷ grams) more are = (omega (arith, are.0, more), each-fits few most grams more are.1)
-
--- what holds of each holds of the one at a place
-pub one-fits : (most : ℕ) (grams : List (List ℕ)) (place : ℕ) (gram : List ℕ) → AllByRecursion (λ gram. length gram ≤ most) grams → place < length grams → gram ≡ slice_index_or grams place gram → length gram ≤ most
-one-fits most [] place gram are within is = absurd (omega (arith, within))
-one-fits most (first ∷ grams) zero gram are within is = subst (λ (octets : List ℕ). length octets ≤ most) (sym is) are.0
-one-fits most (first ∷ grams) (suc place) gram are within is = one-fits most grams place gram are.1 (omega (arith, within)) is
-
--- no datagram yet
-pub gained-none_sent : (told : Option (List Event)) (to : Addr) (grams : List (List ℕ)) → told ≡ gained told (sent_events to (take 0 grams))
-gained-none_sent told to grams = gained-nothing told
-
--- all of them
-pub sent-all : (told old : Option (List Event)) (to : Addr) (grams : List (List ℕ)) (end : ℕ) → length grams ≤ end → told ≡ gained old (sent_events to (take end grams)) → told ≡ gained old (sent_events to grams)
-sent-all told old to grams end whole is = is ∙ ap (λ (all : List (List ℕ)). gained old (sent_events to all)) (take_all end grams whole)

@@ -39,10 +39,11 @@ use Rattle.mode6_frame.specs.declared.message.Head.{Head}
 use Rattle.mru_read.specs.declared.pages.Page.{Page}
 use Rattle.mru_read.specs.Pages.{page_of}
 use Rattle.sys_vars.specs.Status.{system_status_of}
+use Rattle.shared_book.specs.Contexts.{context_at}
+use Rattle.shared_book.specs.declared.common.Common.{Common}
 use Rattle.ntpd_serve.specs.declared.ending.Ending.{Ending}
 use Rattle.ntpd_serve.specs.declared.ending.Ending.TheVariants.{Silent}
-use Rattle.ntpd_serve.specs.declared.once.Common.{Common}
-use Rattle.ntpd_serve.specs.Once.{IsOpeningState, Follows, context_at}
+use Rattle.ntpd_serve.specs.Once.{IsOpeningState, Follows}
 
 -- of two rules without flags, whichever has the address, or neither, it has none
 flags_of-two : (first second : Bool) (one two : Rule) → one.flags ≡ 0 → two.flags ≡ 0

@@ -1,7 +1,7 @@
 -- The numbers and texts of the program, by hand. They are our own rules.
 use Rattle.std.proofs.Common.{◌≡◌, codes, refl}
 use Rattle.std.specs.Fmt.{digits}
-use Rattle.server_core.specs.declared.response.Silence.TheVariants.{Limited}
+use Rattle.server_core.specs.declared.response.Silence.TheVariants.{Ignored, Limited}
 use Rattle.ntpd_serve.specs.declared.ending.Ending.TheVariants.{Answered, Silent, Failed}
 use Rattle.ntpd_serve.specs.declared.ending.Failure.TheVariants.{Quiet}
 use Rattle.ntpd_serve.specs.declared.once.TheConstants.{PATIENCE}
@@ -20,6 +20,10 @@ unfolding line_of digits
 two = refl
 
 -- lines without a number
+ignored : line_of (Silent Ignored) ≡ codes "silent ignored\n"
+unfolding line_of
+ignored = refl
+
 limited : line_of (Silent Limited) ≡ codes "silent limited\n"
 unfolding line_of
 limited = refl

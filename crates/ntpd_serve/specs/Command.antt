@@ -4,7 +4,7 @@ use Rattle.fixed_time.specs.declared.time.Ntp64.{Ntp64}
 use Rattle.edge_traits.specs.declared.salt.Salt.{Salt}
 use Rattle.net_addr.specs.Spelling.{IsAddr, Spells}
 use Rattle.net_addr.specs.declared.addr.Addr.{Addr}
-use Rattle.ntpd_serve.specs.declared.once.Common.{Common}
+use Rattle.shared_book.specs.declared.common.Common.{Common}
 use Rattle.ntpd_serve.specs.declared.ending.Ending.{Ending}
 use Rattle.ntpd_serve.specs.declared.ending.Ending.TheVariants.{Failed}
 use Rattle.ntpd_serve.specs.declared.ending.Failure.TheVariants.{Words, Host, NoMemory}

@@ -1,12 +1,12 @@
 -- What `ntpd once` does at its port and its clock: one datagram, answered by a server that has just begun (our own rule, over RFC 5905 and RFC 9327).
-use Rattle.std.specs.Prelude.{◌≡◌, ◌≢◌, ◌⊎◌, ◌<◌, ◌*◌, ◌^◌, ℕ, List, [], ◌∷◌, ◌++◌, length, map, take, replicate, Bool, IsTrue}
+use Rattle.std.specs.Prelude.{◌≡◌, ◌≢◌, ◌⊎◌, ◌<◌, ◌*◌, ◌^◌, ℕ, List, [], ◌∷◌, ◌++◌, length, take, replicate, Bool, IsTrue}
 use Rattle.fixed_time.specs.declared.time.Ntp64.{Ntp64}
 use Rattle.mac_keys.specs.declared.keys.Key.{Key}
 use Rattle.net_addr.specs.declared.addr.Addr.{Addr}
 use Rattle.edge_traits.specs.Told.{Rose}
 use Rattle.edge_traits.specs.declared.port.Event.{Event}
 use Rattle.edge_traits.specs.declared.status.Status.{Status}
-use Rattle.edge_traits.specs.declared.port.Event.TheVariants.{Took, Silence, Sent}
+use Rattle.edge_traits.specs.declared.port.Event.TheVariants.{Took, Silence}
 use Rattle.recency.specs.declared.limits.Limits.{Limits}
 use Rattle.recency.specs.declared.limits.TheConstants.{PLAIN_MAXAGE, PLAIN_MAXDEPTH, PLAIN_MINAGE, PLAIN_MINDEPTH}
 use Rattle.sys_vars.specs.Opening.{IsOpening}
@@ -21,11 +21,13 @@ use Rattle.server_core.specs.Class.{IsClass}
 use Rattle.server_core.specs.declared.class.Class.TheVariants.{Silent as NotHeard}
 use Rattle.server_core.specs.declared.class.Unheard.{Unheard}
 use Rattle.server_core.specs.Responses.{IsResponse, grams_of}
+use Rattle.giving.specs.Gives.{sent_events}
+use Rattle.shared_book.specs.Contexts.{context_at}
+use Rattle.shared_book.specs.declared.common.Common.{Common}
 use Rattle.ntpd_serve.specs.declared.ending.Ending.{Ending}
 use Rattle.ntpd_serve.specs.declared.ending.Ending.TheVariants.{Answered, Silent, Failed}
 use Rattle.ntpd_serve.specs.declared.ending.Failure.{Failure}
 use Rattle.ntpd_serve.specs.declared.ending.Failure.TheVariants.{Words, Host, Port, Quiet, Closed, NoMemory}
-use Rattle.ntpd_serve.specs.declared.once.Common.{Common}
 use Rattle.ntpd_serve.specs.declared.once.TheConstants.{PATIENCE}
 
 -- so many takes in a row that found nothing
@@ -46,14 +48,6 @@ pub record IsOpeningState (origin : Ntp64) (s : ServerState) : Type 0 where
   pub stamp : s.stamp ≡ 0
   pub limits : ArePlainLimits s.limits
   pub origin_is : s.origin ≡ origin
-
--- what an answer needs to know beside the server, of a datagram that came at this moment
-abbrev pub context_at : Common → ℕ → Context
-context_at common came = record { salt = common.salt; origin = common.origin; moment = came }
-
--- the gives of these datagrams to this address, in their order
-abbrev pub sent_events : Addr → List (List ℕ) → List Event
-sent_events to grams = map (λ gram. Sent to gram) grams
 
 -- a front of these datagrams was given, and not all of them
 abbrev pub IsCutShort : Addr → List (List ℕ) → List Event → Type 0
@@ -126,29 +120,6 @@ abbrev pub Happens : Common → Ending → List Event → List ℕ → Type 0
 Happens common ending events readings =
     Comes common ending events readings
     ⊎ ((why : Failure) × (ending ≡ Failed why) × OnlySilences why events × (readings ≡ []))
-
--- these datagrams were given, or the port failed or had no memory before the last
-abbrev pub GivesAll : Ending → Addr → List (List ℕ) → List Event → Type 0
-GivesAll (Answered count) to grams events = (events ≡ sent_events to grams) × (count ≡ length grams)
-GivesAll (Failed Port) to grams events = IsCutShort to grams events
-GivesAll (Failed NoMemory) to grams events = IsCutShort to grams events
-GivesAll _ to grams events = ⊥
-
--- the datagrams of the response to what came in this context are given, once the clock is read
-abbrev pub GivesGrams : List Key → Context → Response → Ending → Addr → List Event → List ℕ → Type 0
-GivesGrams keys context response ending to events readings =
-    (grams : List (List ℕ)) × (sent : ℕ) × IsMade keys context sent response grams
-    × GivesAll ending to grams events × (readings ≡ sent ∷ [])
-
--- What is done about the response to what came in this context, by how the call ends: nothing, for a reason; or its
--- datagrams are given, for which memory may be wanting before the clock is read.
-abbrev pub GivesResponse : List Key → Context → Response → Ending → Addr → List Event → List ℕ → Type 0
-GivesResponse keys context response (Silent why) to events readings =
-    (response ≡ NoAnswer why) × (events ≡ []) × (readings ≡ [])
-GivesResponse keys context response (Failed NoMemory) to events readings =
-    ((events ≡ []) × (readings ≡ [])) ⊎ GivesGrams keys context response (Failed NoMemory) to events readings
-GivesResponse keys context response ending to events readings =
-    GivesGrams keys context response ending to events readings
 
 -- what stands behind an ending: faults of the port that rose, takes that found nothing, or its end
 pub record Causes (ending : Ending) (faults faults' quiets quiets' : ℕ) (is_closed : Bool) : Type 0 where

@@ -9,11 +9,12 @@ ghost use Rattle.ntpd_serve.specs.declared.ending.Ending.{Ending};
 ghost use Rattle.ntpd_serve.specs.declared.ending.Failure.{Failure};
 
 use crate::ending::{Ending, Failure};
-use crate::once::{Common, PATIENCE, serve_once};
+use crate::once::{PATIENCE, serve_once};
 use crate::report::report;
 use edge_traits::{Clock, Gate, Host, HostFault, Port, Sink, Status};
 use mac_keys::KeyTable;
 use net_addr::{Addr, read_named};
+use shared_book::Common;
 use std::alloc::Global;
 use std::sync::Wait;
 use std::thread::Threads;

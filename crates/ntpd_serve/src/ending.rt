@@ -1,7 +1,9 @@
 ghost use Rattle.std.specs.Prelude.{◌≡◌};
+ghost use Rattle.giving.specs.declared.given.GiveEnd.{GiveEnd};
 ghost use Rattle.ntpd_serve.specs.Ending.{failure_status, status_of};
 
 use edge_traits::Status;
+use giving::{GiveEnd, Given};
 use server_core::Silence;
 
 /// How a run of `ntpd` ended.
@@ -30,6 +32,19 @@ pub enum Failure {
     Closed,
     /// There was no memory.
     NoMemory,
+}
+
+/// How a run ends that gave so much of its answer.
+pub fn ending_of(given: Given) -> Ending
+    ensures whole { given.end ≡ GiveEnd.Whole → result ≡ Ending.Answered given.count }
+    ensures failed { given.end ≡ GiveEnd.Failed → result ≡ Ending.Failed Failure.Port }
+    ensures no_memory { given.end ≡ GiveEnd.NoMemory → result ≡ Ending.Failed Failure.NoMemory }
+{
+    match given.end {
+        GiveEnd::Whole => Ending::Answered(given.count),
+        GiveEnd::Failed => Ending::Failed(Failure::Port),
+        GiveEnd::NoMemory => Ending::Failed(Failure::NoMemory),
+    }
 }
 
 /// The exit status of a run that ended so and whose line was written.

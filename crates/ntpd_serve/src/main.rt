@@ -1,7 +1,8 @@
 //! The program `ntpd`: an NTP server. Today it serves one datagram, by `once ADDR:PORT`.
 //!
-//! Layer 7. Stands on: `server_core`, `mru_read`, `recency`, `access_rules`, `sys_vars`,
-//! `mode6_frame`, `mac_keys`, `command_line`, `edge_traits`, `net_addr`, `fixed_time`.
+//! Layer 7. Stands on: `shared_book`, `giving`, `server_core`, `mru_read`, `recency`,
+//! `access_rules`, `sys_vars`, `mode6_frame`, `mac_keys`, `command_line`, `edge_traits`, `net_addr`,
+//! `fixed_time`.
 //! Promises: `once` gives the defined answer to one datagram and nothing else, and prints the line
 //! of its status.
 #![tactic(auto)]
@@ -11,7 +12,6 @@ mod ending;
 mod laws;
 mod once;
 mod report;
-mod sending;
 #[cfg(test)]
 mod tests;
 mod usage;

@@ -1,4 +1,4 @@
-ghost use Rattle.std.specs.Prelude.{◌≡◌, ◌≤◌, ◌<◌, ℕ, List, [], ◌∷◌, ◌++◌, IsTrue, IfOk, IfErr};
+ghost use Rattle.std.specs.Prelude.{◌≡◌, ◌≢◌, ◌≤◌, ◌<◌, ℕ, List, [], ◌∷◌, ◌++◌, IsNone, IsTrue, IfSome, IfOk, IfErr};
 ghost use Rattle.edge_traits.specs.Ports.{IsPortKept};
 ghost use Rattle.edge_traits.specs.Told.{gained, Grows, Rose};
 ghost use Rattle.edge_traits.specs.declared.port.Event.{Event};
@@ -8,35 +8,26 @@ ghost use Rattle.server_core.specs.Books.{IsOpen};
 ghost use Rattle.server_core.specs.Class.{IsClass};
 ghost use Rattle.server_core.specs.declared.class.Class.{Class};
 ghost use Rattle.server_core.specs.declared.class.Unheard.{Unheard};
+ghost use Rattle.server_core.specs.declared.response.Response.{Response};
+ghost use Rattle.server_core.specs.declared.response.Silence.{Silence};
 ghost use Rattle.ntpd_serve.specs.declared.ending.Ending.{Ending};
 ghost use Rattle.ntpd_serve.specs.Ending.{Reports};
-ghost use Rattle.ntpd_serve.specs.Once.{silences, context_at, Follows, Happens, LeavesUnheard, OnlySilences, Causes, HasCome, IsOpeningState, IsServed};
+ghost use Rattle.ntpd_serve.specs.Once.{silences, Follows, Happens, LeavesUnheard, OnlySilences, Causes, HasCome, IsOpeningState, IsServed};
 
-use crate::ending::{Ending, Failure};
+use crate::ending::{Ending, Failure, ending_of};
 use crate::report::report;
-use crate::sending::send_response;
-use edge_traits::{Clock, Octets, Port, PortFault, Salt, Sink, Status, Taken};
+use edge_traits::{Clock, Octets, Port, PortFault, Sink, Status, Taken};
 use fixed_time::Ntp64;
-use mac_keys::KeyTable;
+use giving::give_response;
 use net_addr::Addr;
 use recency::Limits;
-use server_core::{Book, respond};
+use server_core::{Book, Response, Silence, respond};
+use shared_book::{Common, context_at};
 use std::alloc::{AllocError, Global};
-use sys_vars::{Context, Record};
+use sys_vars::Record;
 
 /// After so many takes that found nothing a call gives up.
 pub const PATIENCE: u32 = 60;
-
-/// What the parts of a server know in common.
-#[derive(Drop)]
-pub struct Common {
-    /// The keys of the MACs that it takes and makes.
-    pub keys: KeyTable,
-    /// The server's secret.
-    pub salt: Salt,
-    /// The time at which its clocks begin.
-    pub origin: Ntp64,
-}
 
 /// Serves one datagram by a server that has just begun, and prints what became of it. It gives up
 /// after 60 takes that found nothing.
@@ -154,7 +145,7 @@ fn wait_for_datagram<P: Port>(port: &mut P, into: &mut Octets) -> Result<Addr, F
 }
 
 /// Serves a datagram from this address by this server. The clock is read before the datagram is
-/// classed, and again where anything is given; then the datagram's octets may make room for those of
+/// classed, and again before an answer is made; then the datagram's octets may make room for those of
 /// the reply.
 fn serve_datagram<P: Port, C: Clock>(
     alloc: Global,
@@ -185,31 +176,29 @@ fn serve_datagram<P: Port, C: Clock>(
 {
     let came = clock.now();
     let context = context_at(common, came);
-    match respond(
-        alloc,
-        book,
-        &common.keys,
-        &context,
-        from,
-        datagram.as_slice(),
-    ) {
+    let keys = &common.keys;
+    match respond(alloc, book, keys, &context, from, datagram.as_slice()) {
         Err(_) => Ending::Failed(Failure::NoMemory),
-        Ok(response) => {
-            let keys = &common.keys;
-            send_response(
-                alloc, port, clock, keys, &context, &response, from, datagram,
-            )
-        }
+        Ok(response) => match silence_of(&response) {
+            Some(why) => Ending::Silent(why),
+            None => {
+                let sent = clock.now();
+                let given = give_response(
+                    alloc, port, keys, &context, &response, sent, from, datagram,
+                );
+                ending_of(given)
+            }
+        },
     }
 }
 
-/// What an answer needs to know beside the server, of a datagram that came at this moment.
-fn context_at(common: &Common, came: u64) -> Context
-    ensures { result ≡ context_at common.now came }
+/// Why a response is none.
+fn silence_of(response: &Response) -> Option<Silence>
+    ensures silent { IfSome result (λ why. response.now ≡ Response.Silent why) }
+    ensures heard { IsNone result → (why : Silence) → response.now ≢ Response.Silent why }
 {
-    Context {
-        salt: common.salt,
-        origin: common.origin,
-        moment: came,
+    match response {
+        Response::Silent(why) => Some(*why),
+        _ => None,
     }
 }

@@ -2,7 +2,7 @@
 ghost use Rattle.std.specs.Prelude.{◌≤◌, length};
 
 use crate::command::{Ended, ntpd};
-use crate::once::{Common, serve_once};
+use crate::once::serve_once;
 use edge_traits::{
     Event, Incoming, MAX_OCTETS, MemoryClock, MemoryHost, MemoryPort, MemorySink, Octets, OpenGate,
     Port, Salt, Status, Taken, UdpPort,
@@ -10,6 +10,7 @@ use edge_traits::{
 use fixed_time::Ntp64;
 use mac_keys::{KeyTable, read_keys};
 use net_addr::{Addr, Ip};
+use shared_book::Common;
 use std::alloc::{AllocError, Global};
 use std::process::Abort;
 use std::sync::Wait;

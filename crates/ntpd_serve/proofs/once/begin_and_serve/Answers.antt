@@ -1,5 +1,6 @@
 use Rattle.std.proofs.Common.{[]}
-use Rattle.ntpd_serve.proofs.OnceLemmas.{gained-nothing, Grows-nothing, Happens-no_memory}
+use Rattle.giving.proofs.GiveLemmas.{gained-nothing}
+use Rattle.ntpd_serve.proofs.OnceLemmas.{Grows-nothing, Happens-no_memory}
 use Rattle.ntpd_serve.proofs.once.begin_and_serve.Goals as goal
 
 pub returns-in-Err-clause-happens : goal.returns-in-Err-clause-happens

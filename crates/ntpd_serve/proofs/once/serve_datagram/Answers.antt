@@ -1,4 +1,5 @@
-use Rattle.std.proofs.Common.{◌≡◌, [], ◌∷◌, List, ℕ, inl, refl, sym, subst}
+use Rattle.std.proofs.Common.{◌≡◌, [], ◌∷◌, List, ℕ, inl, refl, sym, subst, take}
+use Rattle.mac_keys.specs.declared.keys.Key.{Key}
 use Rattle.net_addr.specs.declared.addr.Addr.{Addr}
 use Rattle.sys_vars.specs.declared.context.Context.{Context}
 use Rattle.server_core.specs.States.{ServerState}
@@ -6,10 +7,13 @@ use Rattle.server_core.specs.declared.response.Response.{Response}
 use Rattle.server_core.specs.Class.{IsClass}
 use Rattle.server_core.specs.declared.class.Class.{Class}
 use Rattle.server_core.specs.declared.class.Class.TheVariants.{Silent}
-use Rattle.server_core.specs.Responses.{IsResponse}
-use Rattle.ntpd_serve.specs.declared.once.Common.{Common}
-use Rattle.ntpd_serve.specs.Once.{GivesResponse, context_at}
-use Rattle.ntpd_serve.proofs.OnceLemmas.{Follows-GivesResponse, Grows-Grows, gained-nothing}
+use Rattle.server_core.specs.declared.class.Unheard.{Unheard}
+use Rattle.server_core.specs.Responses.{IsResponse, grams_of}
+use Rattle.giving.specs.Gives.{sent_events}
+use Rattle.giving.proofs.GiveLemmas.{gained-nothing}
+use Rattle.shared_book.specs.Contexts.{context_at}
+use Rattle.shared_book.specs.declared.common.Common.{Common}
+use Rattle.ntpd_serve.proofs.OnceLemmas.{Follows-given, Grows-Grows, IsAnswer-response, grams-some}
 use Rattle.ntpd_serve.proofs.once.serve_datagram.Goals as goal
 
 -- the response to the octets that were lent is that to the datagram
@@ -24,23 +28,42 @@ same_class common came context from lent octets class here same is =
     subst (λ (o : List ℕ). IsClass o from common.keys context class) (sym same)
     (subst (λ (k : Context). IsClass octets from common.keys k class) (sym here) is)
 
-pub returns-in-Ok-clause-follows : goal.returns-in-Ok-clause-follows
-returns-in-Ok-clause-follows g c =
-    let gives = c.send_response.ensures.gives in
-    let is = response_to_datagram c.args.book.now.state c.args.common.now c.now-came.result c.context_at-context.result c.args.from.now _ c.args.datagram.now c.in-Ok.response c.context_at-context.ensures c.as_slice.ensures.same c.in-Ok.ensures.response in (
-      gives.0,
-      c.now-came.result ∷ gives.1,
-      Follows-GivesResponse c.args.common.now c.args.book.now.state c.args.from.now c.args.datagram.now c.now-came.result c.in-Ok.response c.send_response.result gives.0 gives.1 is
-          (subst (λ (context : Context). GivesResponse c.args.common.now.keys context c.in-Ok.response c.send_response.result c.args.from.now gives.0 gives.1) c.context_at-context.ensures gives.2),
-      gives.3,
-      Grows-Grows _ _ _ _ _ c.now-came.ensures gives.4,
-      λ why is. c.respond.ensures.silent why (same_class c.args.common.now c.now-came.result _ c.args.from.now _ _ (Silent why) c.context_at-context.ensures c.as_slice.ensures.same is),
-    )
+-- one that is heard at no moment is not heard in this context
+unheard_in : (keys : List Key) (context : Context) (from : Addr) (lent octets : List ℕ) (why : Unheard) → lent ≡ octets → ((moment : Context) → IsClass octets from keys moment (Silent why)) → IsClass lent from keys context (Silent why)
+unheard_in keys context from lent octets why same is = subst (λ (o : List ℕ). IsClass o from keys context (Silent why)) (sym same) (is context)
 
 pub returns-in-Err-clause-follows : goal.returns-in-Err-clause-follows
 returns-in-Err-clause-follows g c =
     ([], c.now-came.result ∷ [], inl refl, gained-nothing _, c.now-came.ensures, λ why is. c.in-Err.ensures.kept)
 
-pub returns-in-Ok-clause-silent : goal.returns-in-Ok-clause-silent
-returns-in-Ok-clause-silent g c = λ why is.
-    c.respond.ensures.silent why (same_class c.args.common.now c.now-came.result _ c.args.from.now _ _ (Silent why) c.context_at-context.ensures c.as_slice.ensures.same (is (context_at c.args.common.now c.now-came.result)))
+pub returns-clause-follows : goal.returns-clause-follows
+returns-clause-follows g c =
+    let common = c.args.common.now in
+    let s = c.args.book.now.state in
+    let from = c.args.from.now in
+    let came = c.now-came.result in
+    let sent = c.now-sent.result in
+    let context = c.context_at-context.result in
+    let response = c.in-Ok.response in
+    let here = c.context_at-context.ensures in
+    let same = c.as_slice.ensures.same in
+    let given = c.give_response-given.ensures in
+    let grams = grams_of common.keys context sent response in
+    let is = response_to_datagram s common came context from _ c.args.datagram.now response here same c.in-Ok.ensures.response in
+    let some = grams-some common.keys context sent response c.in-Ok.ensures.givable (c.in-None.ensures.heard refl) in
+    let answer = IsAnswer-response common s from c.args.datagram.now came sent context response here is some in (
+      sent_events from (take c.give_response-given.result.count grams),
+      came ∷ sent ∷ [],
+      Follows-given common s from c.args.datagram.now (came ∷ sent ∷ []) grams c.give_response-given.result.count c.give_response-given.result.end c.ending_of.result answer given.whole given.cut c.ending_of.ensures.whole c.ending_of.ensures.failed c.ending_of.ensures.no_memory,
+      given.given,
+      Grows-Grows _ _ _ _ _ c.now-came.ensures c.now-sent.ensures,
+      λ why unheard. c.respond.ensures.silent why (same_class common came _ from _ _ (Silent why) here same unheard),
+    )
+
+pub returns-clause-silent : goal.returns-clause-silent
+returns-clause-silent g c = λ why is.
+    c.respond.ensures.silent why (unheard_in c.args.common.now.keys c.context_at-context.result c.args.from.now _ _ why c.as_slice.ensures.same is)
+
+pub returns-in-Some-clause-silent : goal.returns-in-Some-clause-silent
+returns-in-Some-clause-silent g c = λ why is.
+    c.respond.ensures.silent why (unheard_in c.args.common.now.keys c.context_at-context.result c.args.from.now _ _ why c.as_slice.ensures.same is)
