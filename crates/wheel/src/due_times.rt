@@ -55,6 +55,21 @@ impl Wheel {
         self.due[key as usize] = Some(at);
     }
 
+    /// Gives a key this due time alone, or none.
+    pub fn put(&mut self, key: u32, at: Option<u64>)
+        requires { key < length self.old }
+        ensures { self.new ≡ slice_set self.old key at }
+    {
+        self.due[key as usize] = at;
+    }
+
+    /// Gives each key this due time alone.
+    pub fn set_all(&mut self, at: u64)
+        ensures { self.new ≡ replicate (length self.old) (Some at) }
+    {
+        self.due.fill(Some(at));
+    }
+
     /// Takes a key's due time away. A key for which there is no room has none. Takes no memory.
     pub fn clear(&mut self, key: u32)
         ensures cleared { due_at self.new key ≡ None }
