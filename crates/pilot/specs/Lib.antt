@@ -1,0 +1,10 @@
+pub mod Steering
+pub mod Views
+pub mod Script
+pub mod Hearing
+pub mod Turns
+pub mod Calls
+pub mod Gains
+pub mod Flights
+pub mod Steps
+pub mod Promises
