@@ -25,7 +25,7 @@ class Names:
         for function in sources.functions():
             self.functions.setdefault((function.crate, function.owner, function.name), []).append(function)
         self.items = {crate: sources.items(crate) for crate in self.crates}
-        self.loose = self.crates | {word.name for word in sources.words()} | sources.texts()
+        self.loose = self.crates | self.others | {word.name for word in sources.words()} | sources.texts()
         for crate, owner, name in self.functions:
             self.loose.update((name, "%s::%s" % (owner, name)))
         for group in list(self.items.values()) + [f.clauses for fs in self.functions.values() for f in fs]:

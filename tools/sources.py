@@ -88,8 +88,8 @@ def clause_text(lines, at):
     return text
 
 
-def past_ghost(lines, row):
-    """The line behind the ghost parameter or ghost import that begins in this line."""
+def past_braces(lines, row):
+    """The line behind the ghost parameter, ghost import or clause that begins in this line."""
     depth = 0
     while row < len(lines):
         depth += lines[row].count("{") - lines[row].count("}")
@@ -105,14 +105,18 @@ def header(lines, at, indent):
     while row < len(lines):
         line = lines[row]
         if line.lstrip().startswith("ghost"):
-            row = past_ghost(lines, row)
+            row = past_braces(lines, row)
             continue
         clause = CLAUSE.match(line)
         if clause:
             name = clause.group(2) or ""
             clauses[name] = clauses.get(name, "") + clause_text(lines, row)
             promises += [name] if clause.group(1) == "ensures" else []
-        elif re.match(" {%d}[{}]" % indent, line) or line.endswith("{"):
+            row = past_braces(lines, row)
+            if lines[row - 1].endswith(";"):
+                break
+            continue
+        if re.match(" {%d}[{}]" % indent, line) or line.endswith("{"):
             break
         # A method of a trait ends without a body.
         if line.endswith(";") and line.count("{") == line.count("}"):
