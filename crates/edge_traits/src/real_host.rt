@@ -7,7 +7,7 @@ use crate::salt::Salt;
 use crate::udp_port::UdpPort;
 use crate::uptime::{Uptime, units_of};
 use fixed_time::Ntp64;
-use net_addr::Addr;
+use net_addr::{Addr, Ip};
 use std::net::Net;
 use std::random::RandomSource;
 use std::rt::Files;
@@ -20,7 +20,8 @@ const SECONDS_TO_1970: u128 = 2_208_988_800;
 /// The machine that the program runs on. Its origin is what the wall clock showed as it was made,
 /// and its clocks begin at that moment, or where the system's clock could not be read then, each at
 /// its first reading. No clause ties the origin to the clocks. It tells neither its binds nor its
-/// files, and a name stands for whatever the system opens under it.
+/// files, and a name stands for whatever the system opens under it. A port at `0.0.0.0:0`, or at
+/// `[::]` with any port number, is for both families (`UdpPort::bind_both`).
 #[derive(Drop)]
 pub struct RealHost<S> {
     system: S,
@@ -84,7 +85,12 @@ impl<S: Files + Net + time::Clock + RandomSource + Copy> Host for RealHost<S> {
     ghost salt = { λ h. h.salt };
 
     fn bind(&mut self, at: &Addr) -> Result<UdpPort, HostFault> {
-        match UdpPort::bind(&self.system, at) {
+        let bound = if is_for_both(at) {
+            UdpPort::bind_both(&self.system, at)
+        } else {
+            UdpPort::bind(&self.system, at)
+        };
+        match bound {
             Ok(port) => Ok(port),
             Err(_) => {
                 self.faults = self.faults.saturating_add(1);
@@ -113,6 +119,15 @@ impl<S: Files + Net + time::Clock + RandomSource + Copy> Host for RealHost<S> {
 
     fn salt(&mut self) -> Salt {
         self.salt
+    }
+}
+
+/// Whether a port of this address is for both families: where neither its address nor its port is
+/// said, or its address is any of IPv6.
+fn is_for_both(at: &Addr) -> bool {
+    match at.ip {
+        Ip::V4(octets) => at.port == 0 && octets == [0; 4],
+        Ip::V6(octets) => octets == [0; 16],
     }
 }
 
