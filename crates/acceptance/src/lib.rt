@@ -2,9 +2,8 @@
 //! built. It has no functions of its own: a crate's tests have all of its functions proved once
 //! more, so those of the great crates stand here, above them.
 //!
-//! Layer 7. Stands on: `ntpq_report`, `mrulist_run`, `mrulist_reader`, `ntpq_client`,
-//! `server_core`, `sys_vars`, `recency`, `conf_file`, `access_rules`, `clock_filter`, `mac_keys`,
-//! `mru_items`, `mode6_frame`, `ntp_packet`, `edge_traits`, `net_addr`, `fixed_time`.
+//! Layer 7. Stands on: `server_core`, `sys_vars`, `recency`, `conf_file`, `access_rules`,
+//! `clock_filter`, `mac_keys`, `mode6_frame`, `ntp_packet`, `edge_traits`, `net_addr`, `fixed_time`.
 //! Promises: nothing beyond that its tests pass.
 #![tactic(auto)]
 
@@ -16,7 +15,5 @@ mod control;
 mod outside;
 #[cfg(test)]
 mod published;
-#[cfg(test)]
-mod query_tool;
 #[cfg(test)]
 mod server;
