@@ -53,6 +53,29 @@ fn a_port_of_ipv6_sends_to_itself(rt: HostRuntime) -> Result<(), Fail> {
     Ok(())
 }
 
+// The other port is of IPv4, and its address is the same both ways.
+#[test]
+fn a_port_for_both_families_talks_to_ipv4(rt: HostRuntime) -> Result<(), Fail> {
+    let any = Addr {
+        ip: Ip::V4([0; 4]),
+        port: 0,
+    };
+    let mut both = UdpPort::bind_both(&rt, &any)?;
+    let mut port = UdpPort::bind(&rt, &ANY_PORT)?;
+    let local = port.local().ok_or("the system tells no address")?;
+
+    let mut into = Octets::new();
+    both.give(&local, b"asked")?;
+    let Taken::Datagram(from) = port.take(&mut into)? else {
+        panic!(rt; "nothing came")
+    };
+    assert_eq!(rt; from.ip, ANY_PORT.ip);
+    port.give(&from, b"answered")?;
+    assert_eq!(rt; both.take(&mut into)?, Taken::Datagram(local));
+    assert_eq!(rt; into.as_slice(), b"answered".as_slice());
+    Ok(())
+}
+
 #[test]
 fn a_datagram_of_3000_octets_is_cut_at_2048(rt: HostRuntime) -> Result<(), Fail> {
     let mut port = UdpPort::bind(&rt, &ANY_PORT)?;
