@@ -1,0 +1,5 @@
+pub mod JobLemmas
+pub mod LawLemmas
+pub mod PlaceLemmas
+pub mod SessionLemmas
+pub mod StopLemmas
