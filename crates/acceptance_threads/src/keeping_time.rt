@@ -31,7 +31,7 @@ const REPLY: [u8; 48] = *b"\x24\x02\x06\xec\x00\x00\x00\x00\x00\x00\x00\x00\xc0\
     \x83\xaa\x7e\x82\x00\x00\x00\x00\x83\xaa\x7e\x82\x00\x00\x00\x00";
 
 /// A pilot that asks the server, whose reply comes at three seconds, and then nothing any more.
-fn pilot(alloc: Global) -> Result<Pilot<MemoryPort, MemoryClock>, AllocError>
+pub fn pilot(alloc: Global) -> Result<Pilot<MemoryPort, MemoryClock>, AllocError>
     ensures { IfOk result (λ pilot. MAX_REQUEST_LEN ≤ pilot.helm.outside.most) }
 {
     let mut incoming = Vec::new(alloc);
@@ -55,7 +55,7 @@ fn pilot(alloc: Global) -> Result<Pilot<MemoryPort, MemoryClock>, AllocError>
 }
 
 /// Whether the first thing that happened is the request to the server.
-fn asked_first(port: &MemoryPort) -> bool {
+pub fn asked_first(port: &MemoryPort) -> bool {
     match port.events().first() {
         Some(Event::Sent(to, octets)) => *to == SERVER && octets.as_slice() == REQUEST.as_slice(),
         _ => false,

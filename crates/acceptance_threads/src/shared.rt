@@ -1,5 +1,6 @@
 //! What the tests share: a server that has just begun, and what a port finds.
-ghost use Rattle.std.specs.Prelude.{◌≡◌, ◌^◌, IfSome, IsSome};
+ghost use Rattle.std.specs.Prelude.{◌≡◌, ◌^◌, [], IfSome, IsSome};
+ghost use Rattle.acceptance_threads.specs.declared.shared.TheConstants.{ORIGIN};
 
 use edge_traits::{Incoming, MAX_OCTETS, Octets, Salt};
 use fixed_time::Ntp64;
@@ -25,7 +26,9 @@ pub const CLIENT: Addr = Addr {
 };
 
 /// What the parts of the server know.
-pub fn common(alloc: Global) -> Common {
+pub fn common(alloc: Global) -> Common
+    ensures { result.origin ≡ ORIGIN }
+{
     Common {
         keys: KeyTable::new(alloc),
         salt: Salt([0; 16]),
@@ -33,15 +36,22 @@ pub fn common(alloc: Global) -> Common {
     }
 }
 
-/// A server that has just begun, behind its turnstile, and its first seat.
+/// A server that has just begun.
+pub fn begun(alloc: Global) -> Option<Book>
+    ensures journal { IfSome result (λ book. book.journal ≡ []) }
+    ensures origin { IfSome result (λ book. book.state.origin ≡ ORIGIN) }
+{
+    let record = Record::opening(alloc, ORIGIN).ok()?;
+    Book::begin(alloc, record, Limits::plain(), ORIGIN).ok()
+}
+
+/// The same behind its turnstile, and its first seat.
 pub fn opened(alloc: Global) -> Option<(Turnstile<Book>, Seat<Book>)>
     ensures door { IfSome result (λ opened. opened.1.door ≡ opened.0) }
     ensures opening { IfSome result (λ opened. IsSome opened.1.opening) }
     ensures share { IfSome result (λ opened. opened.1.share ≡ 2 ^ 32) }
 {
-    let record = Record::opening(alloc, ORIGIN).ok()?;
-    let book = Book::begin(alloc, record, Limits::plain(), ORIGIN).ok()?;
-    Turnstile::begin(alloc, book).ok()
+    Turnstile::begin(alloc, begun(alloc)?).ok()
 }
 
 /// These octets, as many as there is room for.

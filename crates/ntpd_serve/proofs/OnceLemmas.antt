@@ -25,7 +25,7 @@ use Rattle.ntpd_serve.specs.declared.once.TheConstants.{PATIENCE}
 use Rattle.ntpd_serve.specs.declared.ending.Ending.{Ending}
 use Rattle.ntpd_serve.specs.declared.ending.Ending.TheVariants.{Answered, Silent, Failed}
 use Rattle.ntpd_serve.specs.declared.ending.Failure.{Failure}
-use Rattle.ntpd_serve.specs.declared.ending.Failure.TheVariants.{Words, Host, Port, Quiet, Closed, NoMemory}
+use Rattle.ntpd_serve.specs.declared.ending.Failure.TheVariants.{Words, Conf, Keys, TooLong, Host, Port, Clock, Quiet, Closed, NoMemory}
 use Rattle.ntpd_serve.specs.Once.{silences, IsAnswer, Follows, OnlySilences, Happens, Causes, HasCome, IsServed}
 
 -- no silence yet
@@ -123,7 +123,11 @@ silences_only n events only (before, from, octets, after, is) = no_datagram n be
 none_came : (why : Failure) (events : List Event) → OnlySilences why events → ¬ HasCome events
 none_came Quiet events only came = silences_only PATIENCE events only came
 none_came Words events only came = absurd only
+none_came (Conf line word) events only came = absurd only
+none_came (Keys line word) events only came = absurd only
+none_came TooLong events only came = absurd only
 none_came Host events only came = absurd only
+none_came Clock events only came = absurd only
 none_came Port events only came = silences_only only.0 events only.2 came
 none_came Closed events only came = silences_only only.0 events only.2 came
 none_came NoMemory events only came = silences_only only.0 events only.2 came

@@ -1,12 +1,17 @@
 -- The command line of `ntpd`, and what the whole run does by it: our own rule.
-use Rattle.std.specs.Prelude.{◌≡◌, ◌⊎◌, ℕ, List, [], ◌∷◌, codes}
+use Rattle.std.specs.Prelude.{◌≡◌, ◌⊎◌, ℕ, Option, List, [], ◌∷◌, codes}
 use Rattle.fixed_time.specs.declared.time.Ntp64.{Ntp64}
 use Rattle.edge_traits.specs.declared.salt.Salt.{Salt}
 use Rattle.net_addr.specs.Spelling.{IsAddr, Spells}
 use Rattle.net_addr.specs.declared.addr.Addr.{Addr}
 use Rattle.shared_book.specs.declared.common.Common.{Common}
+use Rattle.setup.specs.Files.{Files}
+use Rattle.ntpd_serve.specs.Serves.{HasNoSession}
+use Rattle.ntpd_serve.specs.declared.command.Command.{Command}
+use Rattle.ntpd_serve.specs.declared.command.Command.TheVariants.{Once, Serve}
 use Rattle.ntpd_serve.specs.declared.ending.Ending.{Ending}
 use Rattle.ntpd_serve.specs.declared.ending.Ending.TheVariants.{Failed}
+use Rattle.ntpd_serve.specs.declared.ending.Failure.{Failure}
 use Rattle.ntpd_serve.specs.declared.ending.Failure.TheVariants.{Words, Host, NoMemory}
 
 -- the words are `once` and a text that spells this address, with its port
@@ -16,19 +21,33 @@ pub record AsksOnce (words : List (List ℕ)) (at : Addr) : Type 0 where
   pub spells : Spells text at
   pub are : words ≡ codes "once" ∷ text ∷ []
 
+-- the words are `serve` and the name of a file
+abbrev pub AsksServe : List (List ℕ) → List ℕ → Type 0
+AsksServe words name = words ≡ codes "serve" ∷ name ∷ []
+
 -- the words are no command
-abbrev pub IsNoCommand : List (List ℕ) → Type 0
-IsNoCommand words = (at : Addr) → ¬ (AsksOnce words at)
+pub record IsNoCommand (words : List (List ℕ)) : Type 0 where
+  pub no_once : (at : Addr) → ¬ (AsksOnce words at)
+  pub no_serve : (name : List ℕ) → ¬ (AsksServe words name)
 
 -- the host gave no port
 abbrev pub IsHostEnding : Ending → Type 0
 IsHostEnding ending = (ending ≡ Failed Host) ⊎ (ending ≡ Failed NoMemory)
 
--- how a run ends before it has a port: by its words, or where the host gave none for them
-abbrev pub EndsBefore : Ending → List (List ℕ) → Type 0
-EndsBefore ending words =
-    ((ending ≡ Failed Words) × IsNoCommand words) ⊎ (((at : Addr) × AsksOnce words at) × IsHostEnding ending)
+-- how a run ends before it serves: by its words; where the host gave no port for `once`; or where there is no session for
+-- `serve`
+abbrev pub EndsBefore : {S : Type 0} → (S → ℕ) → Files → ℕ → ℕ → Option S → Ending → List (List ℕ) → Type 0
+EndsBefore source_faults files faults faults' source ending words =
+    ((ending ≡ Failed Words) × IsNoCommand words)
+    ⊎ ((((at : Addr) × AsksOnce words at) × IsHostEnding ending)
+    ⊎ ((name : List ℕ) × (why : Failure) × AsksServe words name × (ending ≡ Failed why)
+    × HasNoSession source_faults files name faults faults' why source))
 
 -- what a run of `once` knows: no keys, and the host's secret and origin
 abbrev pub common_of : Salt → Ntp64 → Common
 common_of salt origin = record { keys = []; salt = salt; origin = origin }
+
+-- the words are this command
+abbrev pub AsksFor : List (List ℕ) → Command → Type 0
+AsksFor words (Once at) = AsksOnce words at
+AsksFor words (Serve name) = AsksServe words name.now

@@ -1,4 +1,6 @@
 pub mod Ending
 pub mod Once
+pub mod Sessions
+pub mod Serves
 pub mod Command
 pub mod Usage

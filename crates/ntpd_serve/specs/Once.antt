@@ -27,7 +27,7 @@ use Rattle.shared_book.specs.declared.common.Common.{Common}
 use Rattle.ntpd_serve.specs.declared.ending.Ending.{Ending}
 use Rattle.ntpd_serve.specs.declared.ending.Ending.TheVariants.{Answered, Silent, Failed}
 use Rattle.ntpd_serve.specs.declared.ending.Failure.{Failure}
-use Rattle.ntpd_serve.specs.declared.ending.Failure.TheVariants.{Words, Host, Port, Quiet, Closed, NoMemory}
+use Rattle.ntpd_serve.specs.declared.ending.Failure.TheVariants.{Words, Conf, Keys, TooLong, Host, Port, Clock, Quiet, Closed, NoMemory}
 use Rattle.ntpd_serve.specs.declared.once.TheConstants.{PATIENCE}
 
 -- so many takes in a row that found nothing
@@ -112,7 +112,11 @@ pub record Comes (common : Common) (ending : Ending) (events : List Event) (read
 abbrev pub OnlySilences : Failure → List Event → Type 0
 OnlySilences Quiet events = events ≡ silences PATIENCE
 OnlySilences Words events = ⊥
+OnlySilences (Conf line word) events = ⊥
+OnlySilences (Keys line word) events = ⊥
+OnlySilences TooLong events = ⊥
 OnlySilences Host events = ⊥
+OnlySilences Clock events = ⊥
 OnlySilences _ events = (quiets : ℕ) × (quiets < PATIENCE) × (events ≡ silences quiets)
 
 -- what one call does at the port and the clock, by how it ends

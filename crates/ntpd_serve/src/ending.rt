@@ -17,15 +17,23 @@ pub enum Ending {
     Failed(Failure),
 }
 
-/// Why a run of `ntpd` served no datagram.
+/// Why a run of `ntpd` served nothing, or no more.
 #[derive(Clone, Copy, Debug, PartialEq, Eq)]
 pub enum Failure {
     /// The words are no command.
     Words,
+    /// The configuration file is refused at this word; line and word are counted from 1.
+    Conf { line: u32, word: u32 },
+    /// The key file is refused at this word.
+    Keys { line: u32, word: u32 },
+    /// A file has more octets than a file may have.
+    TooLong,
     /// The host failed.
     Host,
     /// The port failed.
     Port,
+    /// The last stamp of the client list was drawn.
+    Clock,
     /// So many takes in a row found nothing that the run gave up.
     Quiet,
     /// The port was closed.
@@ -57,13 +65,16 @@ pub fn status_of(ending: &Ending) -> Status
     }
 }
 
-fn failure_status(why: &Failure) -> Status
+/// The exit status of a failure.
+pub fn failure_status(why: &Failure) -> Status
     ensures { result.0 ≡ failure_status why.now }
 {
     Status(match why {
         Failure::Words => 1,
+        Failure::Conf { .. } | Failure::Keys { .. } | Failure::TooLong => 2,
         Failure::Host => 3,
         Failure::Port => 4,
+        Failure::Clock => 5,
         Failure::Quiet => 6,
         Failure::Closed => 7,
         Failure::NoMemory => 9,

@@ -1,17 +1,20 @@
-//! The program `ntpd`: an NTP server. Today it serves one datagram, by `once ADDR:PORT`.
+//! The program `ntpd`: an NTP server, by `serve FILE`, or for one datagram, by `once ADDR:PORT`.
 //!
-//! Layer 7. Stands on: `shared_book`, `giving`, `server_core`, `mru_read`, `recency`,
-//! `access_rules`, `sys_vars`, `mode6_frame`, `mac_keys`, `command_line`, `edge_traits`, `net_addr`,
-//! `fixed_time`.
-//! Promises: `once` gives the defined answer to one datagram and nothing else, and prints the line
-//! of its status.
+//! Layer 7. Stands on: `setup`, `responders`, `worker`, `pilot`, `shared_book`, `giving`,
+//! `server_core`, `associations`, `mru_read`, `recency`, `access_rules`, `conf_file`, `sys_vars`,
+//! `mode6_frame`, `mac_keys`, `command_line`, `edge_traits`, `net_addr`, `fixed_time`.
+//! Promises: `serve` runs the session of its configuration, and hands it back with its one history;
+//! `once` gives the defined answer to one datagram and nothing else; each prints its lines, and each
+//! status has its cause.
 #![tactic(auto)]
 
 mod command;
 mod ending;
 mod laws;
 mod once;
+mod outcome;
 mod report;
+mod serve;
 #[cfg(test)]
 mod tests;
 mod usage;

@@ -1,15 +1,17 @@
 //! Whole runs of `ntpd`, over a host in memory and over a real socket.
-ghost use Rattle.std.specs.Prelude.{◌≤◌, length};
+ghost use Rattle.std.specs.Prelude.{◌≤◌, All, IfOk, length};
+ghost use Rattle.edge_traits.specs.Memory.{IsNewClock, IsNewPort};
 
 use crate::command::{Ended, ntpd};
 use crate::once::serve_once;
 use edge_traits::{
-    Event, Incoming, MAX_OCTETS, MemoryClock, MemoryHost, MemoryPort, MemorySink, Octets, OpenGate,
-    Port, Salt, Status, Taken, UdpPort,
+    Event, Incoming, MAX_OCTETS, MemoryClock, MemoryFile, MemoryHost, MemoryPort, MemorySink,
+    MemorySource, Name, Octets, OpenGate, Port, Salt, Status, Taken, UdpPort,
 };
 use fixed_time::Ntp64;
 use mac_keys::{KeyTable, read_keys};
 use net_addr::{Addr, Ip};
+use responders::Session;
 use shared_book::Common;
 use std::alloc::{AllocError, Global};
 use std::process::Abort;
@@ -17,8 +19,11 @@ use std::sync::Wait;
 use std::test::Fail;
 use std::thread::Threads;
 
-/// The command of each run, but for those of other words.
+/// The command of each run of `once`, but for those of other words.
 const ONCE: &str = "once 127.0.0.1:123";
+
+/// The command of each run of `serve`.
+const SERVE: &str = "serve conf";
 
 /// 1 January 1970 (RFC 5905, figure 4).
 const ORIGIN: Ntp64 = Ntp64(0x83aa_7e80_0000_0000);
@@ -37,6 +42,12 @@ const REQUEST: [u8; 48] = *b"\x23\x00\x06\xe9\
 
 /// The reply to it of a server that knows no time yet, one second after ORIGIN.
 const REPLY: [u8; 48] = *b"\xe4\x00\x06\xec\x00\x00\x00\x00\x00\x10\x00\x00INIT\
+    \x00\x00\x00\x00\x00\x00\x00\x00\x83\xaa\x7e\x80\x00\x00\x00\x00\
+    \x83\xaa\x7e\x81\x00\x00\x00\x00\x83\xaa\x7e\x81\x00\x00\x00\x00";
+
+/// The reply to it of a server of its own clock at stratum 2, whose dispersion after one second at
+/// 15 ppm is less than one unit of 2^-16 s, rounded up.
+const LOCAL_REPLY: [u8; 48] = *b"\x24\x02\x06\xec\x00\x00\x00\x00\x00\x00\x00\x01\x7f\x00\x00\x01\
     \x00\x00\x00\x00\x00\x00\x00\x00\x83\xaa\x7e\x80\x00\x00\x00\x00\
     \x83\xaa\x7e\x81\x00\x00\x00\x00\x83\xaa\x7e\x81\x00\x00\x00\x00";
 
@@ -91,17 +102,61 @@ fn words_of(alloc: Global, text: &str) -> Result<Vec<String>, AllocError> {
     Ok(words)
 }
 
-/// What a run leaves: its status, what its port saw, and what it printed.
+/// What a run leaves: its status, what its ports saw, and what it printed.
 #[derive(Drop)]
 struct Run {
-    ended: Ended<MemoryPort, MemoryClock>,
+    ended: Ended<MemoryPort, MemoryClock, MemorySource>,
     out: MemorySink,
+}
+
+/// A run of these words over this host, whose sink fails at these writes.
+fn run_on<R: Threads + Wait + Sync>(
+    rt: &R,
+    alloc: Global,
+    text: &str,
+    mut host: MemoryHost,
+    failing_writes: Vec<u64>,
+) -> Result<Run, AllocError> {
+    let mut out = MemorySink::of(alloc, failing_writes);
+    let words = words_of(alloc, text)?;
+    let ended = ntpd(rt, alloc, words.as_slice(), &mut host, &OpenGate, &mut out);
+    Ok(Run { ended, out })
+}
+
+/// A clock that reads one second.
+fn clock(alloc: Global) -> Result<MemoryClock, AllocError>
+    ensures { IfOk result IsNewClock }
+{
+    Ok(MemoryClock::of(vec![in alloc; SECOND]?))
+}
+
+/// A host of these files and ports, with three clocks.
+fn host_of(
+    alloc: Global,
+    files: Vec<MemoryFile>,
+    ports: Vec<MemoryPort>,
+) -> Result<MemoryHost, AllocError>
+    requires { All IsNewPort ports.items }
+{
+    let mut clocks = Vec::new(alloc);
+    clocks.push(clock(alloc)?)?;
+    clocks.push(clock(alloc)?)?;
+    clocks.push(clock(alloc)?)?;
+    Ok(MemoryHost::of(
+        alloc,
+        files,
+        ports,
+        clocks,
+        ORIGIN,
+        Salt([0; 16]),
+        Vec::new(alloc),
+    ))
 }
 
 /// A run of these words over a host whose port finds these datagrams, whose gives with these numbers
 /// fail, and whose sink fails at these writes.
-fn run_over(
-    rt: &(impl Threads + Wait),
+fn run_over<R: Threads + Wait + Sync>(
+    rt: &R,
     alloc: Global,
     text: &str,
     incoming: Vec<Incoming>,
@@ -110,21 +165,8 @@ fn run_over(
 ) -> Result<Run, AllocError> {
     let mut ports = Vec::new(alloc);
     ports.push(MemoryPort::of(alloc, incoming, failing_gives))?;
-    let mut clocks = Vec::new(alloc);
-    clocks.push(MemoryClock::of(vec![in alloc; SECOND]?))?;
-    let mut host = MemoryHost::of(
-        alloc,
-        Vec::new(alloc),
-        ports,
-        clocks,
-        ORIGIN,
-        Salt([0; 16]),
-        Vec::new(alloc),
-    );
-    let mut out = MemorySink::of(alloc, failing_writes);
-    let words = words_of(alloc, text)?;
-    let ended = ntpd(rt, alloc, words.as_slice(), &mut host, &OpenGate, &mut out);
-    Ok(Run { ended, out })
+    let host = host_of(alloc, Vec::new(alloc), ports)?;
+    run_on(rt, alloc, text, host, failing_writes)
 }
 
 /// One datagram from the client.
@@ -157,7 +199,7 @@ fn is_so(run: &Run, status: u8, printed: &str, gave: &[u8]) -> bool {
 
 /// Whether `once` prints this and gives these octets where its port finds this datagram.
 fn serves(
-    rt: &(impl Threads + Wait),
+    rt: &(impl Threads + Wait + Sync),
     alloc: Global,
     datagram: &[u8],
     printed: &str,
@@ -192,7 +234,7 @@ fn once_knows_no_keys(rt: HostRuntime) -> Result<(), Fail> {
 
 /// Whether `once` gives this answer where its port finds this control request.
 fn answers(
-    rt: &(impl Threads + Wait),
+    rt: &(impl Threads + Wait + Sync),
     alloc: Global,
     request: &[u8],
     answer: &[u8],
@@ -252,7 +294,7 @@ fn a_long_answer_takes_two_datagrams(rt: HostRuntime) -> Result<(), Fail> {
 
 /// Whether these words are no command.
 fn is_no_command(
-    rt: &(impl Threads + Wait),
+    rt: &(impl Threads + Wait + Sync),
     alloc: Global,
     words: &str,
 ) -> Result<bool, AllocError> {
@@ -265,8 +307,8 @@ fn is_no_command(
 #[test]
 fn words_that_are_no_command_are_refused(rt: HostRuntime) -> Result<(), Fail> {
     let texts = "|once|once nowhere|once 127.0.0.1|once ::1|once [::1]|once ::1:123\
-        |once 127.0.0.1:0123|once 127.0.0.1:65536|once 127.0.0.1:123 twice|serve ntp.conf\
-        |Once 127.0.0.1:123";
+        |once 127.0.0.1:0123|once 127.0.0.1:65536|once 127.0.0.1:123 twice|serve\
+        |serve ntp.conf twice|Once 127.0.0.1:123|Serve ntp.conf";
     for words in texts.split('|') {
         assert!(rt; is_no_command(&rt, rt.alloc(), words)?, "{words}");
     }
@@ -341,7 +383,7 @@ fn faults_of_port_and_sink_have_their_status(rt: HostRuntime) -> Result<(), Fail
 fn a_host_that_gives_no_port_has_its_status(rt: HostRuntime) -> Result<(), Fail> {
     let alloc = rt.alloc();
     let failing = vec![in alloc; 0u64]?;
-    let mut host = MemoryHost::of(
+    let host = MemoryHost::of(
         alloc,
         Vec::new(alloc),
         Vec::new(alloc),
@@ -350,11 +392,122 @@ fn a_host_that_gives_no_port_has_its_status(rt: HostRuntime) -> Result<(), Fail>
         Salt([0; 16]),
         failing,
     );
-    let mut out = MemorySink::of(alloc, Vec::new(alloc));
-    let words = words_of(alloc, ONCE)?;
-    let ended = ntpd(&rt, alloc, words.as_slice(), &mut host, &OpenGate, &mut out);
-    assert!(rt; out.contents() == b"ntpd: host\n".as_slice());
-    assert!(rt; ended.status == Status(3));
+    let run = run_on(&rt, alloc, ONCE, host, Vec::new(alloc))?;
+    assert!(rt; is_so(&run, 3, "ntpd: host\n", b""));
+    Ok(())
+}
+
+/// A file of this name with this text, whose reads with these numbers fail.
+fn file(
+    alloc: Global,
+    name: &str,
+    text: &str,
+    failing: Vec<u64>,
+) -> Result<MemoryFile, AllocError> {
+    Ok(MemoryFile {
+        name: Name::of(vec_of(alloc, name.as_bytes())?),
+        octets: vec_of(alloc, text.as_bytes())?,
+        failing,
+    })
+}
+
+/// These octets.
+fn vec_of(alloc: Global, bytes: &[u8]) -> Result<Vec<u8>, AllocError> {
+    let mut octets = Vec::new(alloc);
+    octets.extend_from_slice(bytes)?;
+    Ok(octets)
+}
+
+/// Whether a session handed back one act of each worker, by which this was given.
+fn has_acts(session: &Session<MemoryPort, MemoryClock>, gave: &[u8]) -> bool {
+    for who in 0..session.workers.len() {
+        let worker = session.workers.get(who);
+        if worker.acts().len() != 1 || given(worker.port().events()).as_slice() != gave {
+            return false;
+        }
+    }
+    true
+}
+
+// Each worker's port finds one request and is then closed; the pilot's port is closed at once, before
+// a tick is due. So the history has the two requests alone, which are of one client.
+#[test]
+fn serve_serves_by_a_worker_at_each_address(rt: HostRuntime) -> Result<(), Fail> {
+    let alloc = rt.alloc();
+    let conf = "listen 127.0.0.1:123\nlisten [::1]:123\nlocal 2\n";
+    let files = vec![in alloc; file(alloc, "conf", conf, Vec::new(alloc))?]?;
+    let mut ports = Vec::new(alloc);
+    ports.push(MemoryPort::of(alloc, one(alloc, &REQUEST)?, Vec::new(alloc)))?;
+    ports.push(MemoryPort::of(alloc, one(alloc, &REQUEST)?, Vec::new(alloc)))?;
+    let host = host_of(alloc, files, ports)?;
+    let run = run_on(&rt, alloc, SERVE, host, Vec::new(alloc))?;
+    let line = "session entries 2 clients 1 epoch 0 left 0\n";
+    assert!(rt; is_so(&run, 0, line, b""));
+    let session = run.ended.session.as_ref().ok_or("a session")?;
+    assert!(rt; session.workers.len() == 2 && has_acts(session, &LOCAL_REPLY));
+    Ok(())
+}
+
+// The stop is the one entry of the history.
+#[test]
+fn a_worker_whose_port_fails_ends_the_session(rt: HostRuntime) -> Result<(), Fail> {
+    let alloc = rt.alloc();
+    let files = vec![in alloc; file(alloc, "conf", "", Vec::new(alloc))?]?;
+    let mut ports = Vec::new(alloc);
+    let failing = vec![in alloc; Incoming::Fail]?;
+    ports.push(MemoryPort::of(alloc, failing, Vec::new(alloc)))?;
+    let host = host_of(alloc, files, ports)?;
+    let run = run_on(&rt, alloc, SERVE, host, Vec::new(alloc))?;
+    let lines = "session entries 1 clients 0 epoch 0 left 0\nntpd: port\n";
+    assert!(rt; is_so(&run, 4, lines, b"") && run.ended.session.is_some());
+    Ok(())
+}
+
+/// The run of `serve conf` over a file of this name and text, and a key file.
+fn run_of<R: Threads + Wait + Sync>(
+    rt: &R,
+    alloc: Global,
+    conf: MemoryFile,
+    keys: &str,
+) -> Result<Run, AllocError> {
+    let mut files = Vec::new(alloc);
+    files.push(conf)?;
+    files.push(file(alloc, "keys", keys, Vec::new(alloc))?)?;
+    let host = host_of(alloc, files, Vec::new(alloc))?;
+    run_on(rt, alloc, SERVE, host, Vec::new(alloc))
+}
+
+#[test]
+fn a_refused_file_is_told_by_its_line_and_word(rt: HostRuntime) -> Result<(), Fail> {
+    let alloc = rt.alloc();
+    let rows = [
+        (
+            "conf",
+            "local 2\nlisten [::1]:123\nrestrict 10.0.0.0/33\n",
+            2,
+            "ntpd: conf line 3 word 2\n",
+        ),
+        ("conf", "keys keys\n", 2, "ntpd: keys line 1 word 3\n"),
+        ("other", "local 2\n", 3, "ntpd: host\n"),
+    ];
+    for (name, text, status, printed) in rows {
+        let conf = file(alloc, name, text, Vec::new(alloc))?;
+        let run = run_of(&rt, alloc, conf, "7 MD5\n")?;
+        assert!(rt;
+            is_so(&run, status, printed, b"") && run.ended.session.is_none(),
+            "{printed}"
+        );
+        assert!(rt; run.ended.source.is_none());
+    }
+    Ok(())
+}
+
+#[test]
+fn a_source_that_fails_comes_back(rt: HostRuntime) -> Result<(), Fail> {
+    let alloc = rt.alloc();
+    let conf = file(alloc, "conf", "local 2\n", vec![in alloc; 0u64]?)?;
+    let run = run_of(&rt, alloc, conf, "")?;
+    assert!(rt; is_so(&run, 3, "ntpd: host\n", b"") && run.ended.source.is_some());
     Ok(())
 }
 

@@ -4,8 +4,8 @@ ghost use Rattle.ntpd_serve.specs.Usage.{notice_text};
 use command_line::Notice;
 
 /// How to call it.
-pub const HELP: &[u8] =
-    b"usage: ntpd once ADDR:PORT    serve one datagram at that address, as 127.0.0.1:123 or [::1]:123
+pub const HELP: &[u8] = b"usage: ntpd serve FILE        serve as this configuration file says
+       ntpd once ADDR:PORT    serve one datagram at that address, as 127.0.0.1:123 or [::1]:123
        ntpd --help            print this
        ntpd --version         print the version
 ";
