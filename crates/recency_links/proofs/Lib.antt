@@ -1,0 +1,10 @@
+pub mod FillLemmas
+pub mod LinkLemmas
+pub mod ListedLemmas
+pub mod NodeLemmas
+pub mod NumberLemmas
+pub mod OperationLemmas
+pub mod ReadingLemmas
+pub mod SearchLemmas
+pub mod SweptLemmas
+pub mod TouchedLemmas

@@ -1,0 +1,1 @@
+use Rattle.recency_links.proofs.NodeLemmas as nodes
