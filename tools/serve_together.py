@@ -97,7 +97,7 @@ def refused(folder):
         ("a directory", folder, 3, "ntpd: host\n"),
         ("an endless file", "/dev/zero", 2, "ntpd: file too long\n"),
         ("an address in use", conf(f"listen 127.0.0.1:{taken.getsockname()[1]}\n"), 3, "ntpd: host\n"),
-        ("an address of another host", conf("listen 192.0.2.1:12345\n"), 3, "ntpd: host\n"),
+        ("an address of another host", conf("listen 203.0.113.77:12345\n"), 3, "ntpd: host\n"),
         ("no key file", conf(f"keys {folder}/none\n"), 3, "ntpd: host\n"),
         ("a bad key", conf(f"keys {conf_of_keys(folder)}\n"), 2, "ntpd: keys line 1 word 3\n"),
     ]
