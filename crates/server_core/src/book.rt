@@ -6,7 +6,8 @@ use crate::journal::Journal;
 use crate::op::Stop;
 use fixed_time::Ntp64;
 use net_addr::Ip;
-use recency::{Limits, PlainList, Recency, Row, Steps};
+use recency::{Limits, Recency, Row, Steps};
+use recency_links::LinkedList;
 use std::alloc::{AllocError, Global};
 use std::marker::{Brand, Model};
 use std::sync::ledger::{Blank, Ledger};
@@ -21,7 +22,7 @@ pub struct Book {
     // What was published before the first operation.
     pub(crate) opening: Record,
     pub(crate) journal: Journal,
-    pub(crate) list: PlainList,
+    pub(crate) list: LinkedList,
     pub(crate) stamp: u64,
 }
 
@@ -37,16 +38,16 @@ impl Model for Book {
     ghost view = { λ b. record {
       state = record {
         published = published_in b.opening b.journal;
-        rows = ⟦<PlainList as Recency>⟧.rows b.list;
+        rows = ⟦<LinkedList as Recency>⟧.rows b.list;
         stamp = b.stamp;
-        limits = ⟦<PlainList as Recency>⟧.limits b.list;
+        limits = ⟦<LinkedList as Recency>⟧.limits b.list;
         origin = b.origin;
       };
       journal = b.journal;
     } };
 
-    ghost invariant = { λ b. IsClientList (⟦<PlainList as Recency>⟧.limits b.list)
-        (⟦<PlainList as Recency>⟧.rows b.list) b.stamp
+    ghost invariant = { λ b. IsClientList (⟦<LinkedList as Recency>⟧.limits b.list)
+        (⟦<LinkedList as Recency>⟧.rows b.list) b.stamp
         × (length b.journal ≤ MAX_ENTRIES + 1) };
 }
 
@@ -67,7 +68,7 @@ impl Book {
         ensures journal { IfOk result (λ book. book.journal ≡ []) }
     {
         let journal = Journal::begin(alloc)?;
-        let list = PlainList::begin(alloc, limits)?;
+        let list = LinkedList::begin(alloc, limits)?;
         Ok(Book {
             alloc,
             origin,
@@ -153,11 +154,11 @@ impl Book {
 }
 
 /// The row of a client, where its look-up is not counted.
-fn find_row<L: Ledger>(list: &PlainList, ip: &Ip, blank: Blank) -> Option<Row>
+fn find_row<L: Ledger>(list: &LinkedList, ip: &Ip, blank: Blank) -> Option<Row>
     requires name { blank.name ≡ L.name }
     requires parts { blank.parts ≡ L.parts }
     requires some { 0 < blank.parts }
-    ensures { result ≡ find_row (⟦<PlainList as Recency>⟧.rows list.now) ip.now }
+    ensures { result ≡ find_row (⟦<LinkedList as Recency>⟧.rows list.now) ip.now }
 {
     let mut steps = Steps::<L>::begin(blank);
     list.find(ip, &mut steps)

@@ -1,9 +1,9 @@
 //! The sequential server: what a datagram asks for, what becomes of it, and the octets of the
 //! answer. One object, the book, takes one operation after another and keeps them in a journal.
 //!
-//! Layer 5. Stands on: `mru_read`, `recency`, `access_rules`, `sys_vars`, `mru_items`,
-//! `mode6_nonce`, `mode6_frame`, `ntp_packet`, `ntp_trailer`, `mac_keys`, `discipline`,
-//! `edge_traits`, `net_addr`, `turnstile`, `fixed_time`.
+//! Layer 5. Stands on: `mru_read`, `recency_links`, `recency`, `access_rules`, `sys_vars`,
+//! `mru_items`, `mode6_nonce`, `mode6_frame`, `ntp_packet`, `ntp_trailer`, `mac_keys`,
+//! `discipline`, `edge_traits`, `net_addr`, `turnstile`, `fixed_time`.
 //! Promises: every datagram has exactly one class; whatever operations the book takes, each reply
 //! and the state after it are those of one definition, and the client list has a history of
 //! moves, as reads can tell; a reply has a MAC where the request has a good one, and a crypto-NAK

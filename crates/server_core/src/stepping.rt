@@ -9,7 +9,8 @@ use crate::op::Op;
 use crate::reading::read_list;
 use crate::refusing::refusal;
 use crate::step::{Reply, StepFault};
-use recency::{PlainList, Recency, Steps};
+use recency::{Recency, Steps};
+use recency_links::LinkedList;
 use std::alloc::{AllocError, Global};
 use std::marker::Brand;
 use std::sync::ledger::{Blank, Ledger};
@@ -73,7 +74,7 @@ impl Book {
             Op::Publish(_) => Ok(Reply::Published),
             Op::Arrive(ask, moment) => {
                 let record = self.journal.latest(&self.opening);
-                let verdict = arrive::<PlainList, L>(
+                let verdict = arrive::<LinkedList, L>(
                     &mut self.list,
                     &mut self.stamp,
                     record,
@@ -89,7 +90,7 @@ impl Book {
             }
             Op::Read(ask, moment) => {
                 let record = self.journal.latest(&self.opening);
-                let reply = read_list::<PlainList, L>(
+                let reply = read_list::<LinkedList, L>(
                     self.alloc,
                     &self.list,
                     &mut self.stamp,
