@@ -2,34 +2,45 @@
 # Completion for ntpd(8) and ntpq(1) of Sarquteb, in bash. One file serves both: it is installed under the name
 # of each.
 
+# The words up to the cursor, in `words`, the last of which is the one that is written. Bash by itself divides
+# 127.0.0.1:123 at the colon, and limit=5 at the sign.
+_sarquteb_words() {
+    local line=${COMP_LINE:0:COMP_POINT}
+    read -ra words <<< "$line"
+    [[ $line != *[[:space:]] ]] || words+=("")
+}
+
+# Offers those of the words in $1 that begin with the one that is written.
+_sarquteb_offer() {
+    mapfile -t COMPREPLY < <(compgen -W "$1" -- "${words[-1]}")
+}
+
 _sarquteb_ntpd() {
-    local word=${COMP_WORDS[COMP_CWORD]}
+    local words
+    _sarquteb_words
     COMPREPLY=()
-    case $COMP_CWORD in
-        1) mapfile -t COMPREPLY < <(compgen -W "serve once --help --version" -- "$word") ;;
-        2) if [[ ${COMP_WORDS[1]} == serve ]]; then
-               compopt -o filenames 2> /dev/null
-               mapfile -t COMPREPLY < <(compgen -f -- "$word")
-           fi ;;
-    esac
+    if [[ ${#words[@]} -eq 2 ]]; then
+        _sarquteb_offer "serve once --help --version"
+    elif [[ ${#words[@]} -eq 3 && ${words[1]} == serve ]]; then
+        compopt -o filenames
+        mapfile -t COMPREPLY < <(compgen -f -- "${words[2]}")
+    fi
 }
 
 _sarquteb_ntpq() {
-    local word=${COMP_WORDS[COMP_CWORD]}
+    local words
+    _sarquteb_words
     COMPREPLY=()
-    case $COMP_CWORD in
-        1) mapfile -t COMPREPLY < <(compgen -W "127.0.0.1 ::1 --help --version" -- "$word") ;;
-        2) [[ ${COMP_WORDS[1]} == --* ]] ||
-               mapfile -t COMPREPLY < <(compgen -W "rv as peers mrulist" -- "$word") ;;
-        3) [[ ${COMP_WORDS[2]} == rv ]] && mapfile -t COMPREPLY < <(compgen -W "0 1" -- "$word") ;;
-        *) if [[ ${COMP_WORDS[2]} == rv ]]; then
-               mapfile -t COMPREPLY < <(compgen -W "$(_sarquteb_names "${COMP_WORDS[3]}")" -- "$word")
-           fi ;;
+    case ${#words[@]}:${words[2]-} in
+        2:*) _sarquteb_offer "127.0.0.1 --help --version" ;;
+        3:*) [[ ${words[1]} == --* ]] || _sarquteb_offer "rv as peers mrulist" ;;
+        4:rv) _sarquteb_offer "0 1" ;;
+        *:rv) _sarquteb_offer "$(_sarquteb_names "${words[3]}")" ;;
+        *:mrulist)
+            [[ ${words[-1]} == *=* ]] || compopt -o nospace
+            _sarquteb_offer "limit= frags= mincount= resall=0x resany=0x"
+            ;;
     esac
-    if [[ $COMP_CWORD -ge 3 && ${COMP_WORDS[2]} == mrulist ]]; then
-        compopt -o nospace 2> /dev/null
-        mapfile -t COMPREPLY < <(compgen -W "limit= frags= mincount= resall=0x resany=0x" -- "$word")
-    fi
 }
 
 # The variables that our server has of an association, 0 for the server itself.
