@@ -1,8 +1,8 @@
 #!/bin/sh
-# The built server takes the sample files, as they stand and with the lines that they offer behind a #; it refuses each
-# line that the manual pages say is refused, where they say; and where mandoc, shellcheck and systemd-analyze are there,
-# they find nothing in the manual pages, the scripts and the unit. Prints what is not so, and fails where there is any.
-# Run at the top of the repository.
+# The built server takes the sample files, as they stand and with the lines that they offer behind a #, and the examples of
+# the README and of ntpd.conf.5; it refuses each line that the manual pages say is refused, where they say; and where
+# mandoc, shellcheck and systemd-analyze are there, they find nothing in the manual pages, the scripts and the unit.
+# Prints what is not so, and fails where there is any. Run at the top of the repository.
 #
 #     tools/check_samples.sh [NTPD NTPQ]
 set -u
@@ -36,9 +36,16 @@ begins() {
     return $status
 }
 
-# The sample configuration at the address above, with this key file.
+# The configuration on standard input at the address above, where this host may ask, and with this key file.
+placed() {
+    echo "listen $at"
+    sed -e "s|^keys [^ ]*|keys $1|" -e '/^listen /d'
+    echo "restrict 127.0.0.1"
+}
+
+# The sample configuration, likewise.
 sample() {
-    sed -e "s|^listen .*|listen $at|" -e "s|^keys .*|keys $1|" etc/ntpd.conf
+    placed "$1" < etc/ntpd.conf
 }
 
 # The lines that a sample offers: their # goes.
@@ -55,6 +62,18 @@ cmp -s "$work/conf.1" "$work/conf" && complain "etc/ntpd.conf offers no lines"
 begins "$work/conf" || complain "etc/ntpd.conf with the lines that it offers: $(cat "$work/out")"
 grep -q "^keys /run/credentials/sarquteb-ntpd.service/ntpd.keys$" etc/ntpd.conf ||
     complain "etc/ntpd.conf does not name the keys that the unit hands over"
+
+# Between two headings, what stands in blocks: of the README, and of a manual page.
+sed -n '/^## Configuration by example/,/^## /{/^...text$/,/^...$/p;}' README.md | grep -v '^...$\|^...text$' > "$work/lines"
+placed "$work/keys" < "$work/lines" > "$work/conf"
+[ "$(wc -l < "$work/lines")" -ge 5 ] || complain "README.md has no example"
+begins "$work/conf" || complain "README.md, the example: $(cat "$work/out")"
+for section in 'CONFIGURATION LINES' 'EXAMPLES'; do
+    sed -n "/^\\.Sh $section/,/^\\.Sh /{/^\\.Bd/,/^\\.Ed/p;}" man/ntpd.conf.5 | grep -v '^\.\|  ntpd: ' > "$work/lines"
+    [ "$(wc -l < "$work/lines")" -ge 5 ] || complain "ntpd.conf.5 has no $section"
+    placed "$work/keys" < "$work/lines" > "$work/conf"
+    begins "$work/conf" || complain "ntpd.conf.5, $section: $(cat "$work/out")"
+done
 
 # Lines of the manual pages with what is printed of them, as a first line.
 printed() {
