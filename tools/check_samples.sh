@@ -1,11 +1,17 @@
 #!/bin/sh
 # The built server takes the sample files, as they stand and with the lines that they offer behind a #, and the examples of
 # the README and of ntpd.conf.5; it refuses each line that the manual pages say is refused, where they say; and where
-# mandoc, shellcheck and systemd-analyze are there, they find nothing in the manual pages, the scripts and the unit.
-# Prints what is not so, and fails where there is any. Run at the top of the repository.
+# mandoc or groff is there, it finds nothing in the manual pages. With --all, shellcheck and systemd-analyze look at the
+# scripts and the unit too, where they are there. Prints what is not so, and fails where there is any. Run at the top of
+# the repository.
 #
-#     tools/check_samples.sh [NTPD NTPQ]
+#     tools/check_samples.sh [--all] [NTPD NTPQ]
 set -u
+all=
+if [ "${1-}" = --all ]; then
+    all=yes
+    shift
+fi
 ntpd=${1:-crates/ntpd_serve/out/ntpd_serve}
 ntpq=${2:-crates/ntpq_tool/out/ntpq_tool}
 work=$(mktemp -d) || exit 1
@@ -100,7 +106,13 @@ refuses keys < "$work/lines"
 if command -v mandoc > /dev/null; then
     mandoc -T lint man/*.[158] 2> /dev/null | grep -v 'referenced manual not found' > "$work/out"
     [ ! -s "$work/out" ] || complain "$(cat "$work/out")"
+elif command -v groff > /dev/null; then
+    for page in man/*.[158]; do
+        groff -ww -mandoc -Tutf8 "$page" 2> "$work/out" > /dev/null
+        [ ! -s "$work/out" ] || complain "$(cat "$work/out")"
+    done
 fi
+[ "$all" ] || exit $bad
 if command -v shellcheck > /dev/null; then
     shellcheck tools/install.sh tools/deb.sh tools/check_samples.sh completions/sarquteb.bash || bad=1
 fi
