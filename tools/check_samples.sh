@@ -69,6 +69,12 @@ begins "$work/conf" || complain "etc/ntpd.conf with the lines that it offers: $(
 grep -q "^keys /run/credentials/sarquteb-ntpd.service/ntpd.keys$" etc/ntpd.conf ||
     complain "etc/ntpd.conf does not name the keys that the unit hands over"
 
+# The lines that the acceptance test reads are those of the sample.
+sed -n '/^const SAMPLE/,/^";/p' crates/acceptance_samples/src/tests.rt |
+    sed -e 's/^const SAMPLE.*= b"//' -e '/^";$/d' > "$work/lines"
+grep -v '^#\|^$' etc/ntpd.conf | cmp -s "$work/lines" - ||
+    complain "crates/acceptance_samples/src/tests.rt does not read etc/ntpd.conf"
+
 # Between two headings, what stands in blocks: of the README, and of a manual page.
 sed -n '/^## Configuration by example/,/^## /{/^...text$/,/^...$/p;}' README.md | grep -v '^...$\|^...text$' > "$work/lines"
 placed "$work/keys" < "$work/lines" > "$work/conf"
