@@ -5,3 +5,10 @@ pub mod Working
 pub mod Standing
 pub mod Walks
 pub mod Parts
+pub mod Widths
+pub mod Sound
+pub mod Posts
+pub mod Listings
+pub mod Sessions
+pub mod Covered
+pub mod Happenings

@@ -1,3 +1,4 @@
 pub mod Wires
 pub mod Placing
 pub mod Kept
+pub mod Sessions
