@@ -1,0 +1,5 @@
+pub mod Draws
+pub mod Arrivals
+pub mod Services
+pub mod Links
+pub mod Runs
