@@ -1,4 +1,4 @@
-ghost use Rattle.std.specs.Prelude.{◌≡◌, ◌<◌, IsSome};
+ghost use Rattle.std.specs.Prelude.{◌≡◌, ◌<◌, ◌≤◌, ◌+◌, IsSome};
 ghost use Rattle.std.proofs.Props.{props};
 ghost use Rattle.recency.specs.Rows.{AreUpTo, find_row};
 
@@ -41,7 +41,9 @@ impl<R: Recency> Stamped<R> {
         visit: &Visit,
         moment: u64,
         steps: &mut Steps<L>,
-    ) -> Result<Touched, AllocError> {
+    ) -> Result<Touched, AllocError>
+        ensures cost { steps.new ≤ steps.old + R.touch_steps self.old.list }
+    {
         let stamp = moment.max(self.stamp.saturating_add(1));
         if stamp == self.stamp {
             return Ok(Touched::Untracked);
@@ -194,8 +196,20 @@ fn drawn_operations_have_the_answers_of_a_plain_list(rt: HostRuntime) -> Result<
     alike::<Brand>(&rt, rt.alloc(), Blank::new(1))
 }
 
-/// Touches of the oldest client of a list of as many rows as there may be, one after another.
-fn long<R: Recency, L: Ledger>(rt: &impl Abort, alloc: Global, blank: Blank) -> Result<(), Fail>
+/// An arrival at a linked list, which takes six steps at most.
+fn touch_in_six<L: Ledger>(
+    stamped: &mut Stamped<LinkedList>,
+    number: u64,
+    steps: &mut Steps<L>,
+) -> Result<Touched, AllocError>
+    ensures { steps.new ≤ steps.old + 6 }
+{
+    stamped.arrive(&visit(number), 0, steps)
+}
+
+/// Touches of a list of as many rows as there may be: of the oldest client, one after another, and then
+/// of one in the middle, which is the newest afterwards, and of it again.
+fn long<L: Ledger>(rt: &impl Abort, alloc: Global, blank: Blank) -> Result<(), Fail>
     requires name { blank.name ≡ L.name }
     requires parts { blank.parts ≡ L.parts }
     requires some { 0 < blank.parts }
@@ -207,15 +221,23 @@ fn long<R: Recency, L: Ledger>(rt: &impl Abort, alloc: Global, blank: Blank) -> 
     let Some(limits) = limits else {
         return Ok(());
     };
-    let mut stamped: Stamped<R> = Stamped::begin(alloc, limits)?;
+    let mut stamped: Stamped<LinkedList> = Stamped::begin(alloc, limits)?;
     for number in 0..depth {
         let touched = stamped.arrive(&visit(number), 0, &mut steps)?;
         assert_eq!(rt; touched, Touched::Added);
     }
     for round in 0..TOUCHES {
-        let oldest = visit(u64::from(round) % depth);
-        let touched = stamped.arrive(&oldest, 0, &mut steps)?;
+        let oldest = u64::from(round) % depth;
+        let touched = touch_in_six(&mut stamped, oldest, &mut steps)?;
         assert_eq!(rt; touched, Touched::Known);
+    }
+    for number in [depth / 2, depth / 2, 0] {
+        let touched = touch_in_six(&mut stamped, number, &mut steps)?;
+        assert_eq!(rt; touched, Touched::Known, "client {number}");
+        assert_eq!(rt;
+            stamped.list.newest().map(|row| row.ip),
+            Some(client(number))
+        );
     }
     assert_eq!(rt; stamped.list.len(), MAX_DEPTH);
     Ok(())
@@ -223,5 +245,5 @@ fn long<R: Recency, L: Ledger>(rt: &impl Abort, alloc: Global, blank: Blank) -> 
 
 #[test]
 fn a_long_list_is_touched_as_a_short_one(rt: HostRuntime) -> Result<(), Fail> {
-    long::<LinkedList, Brand>(&rt, rt.alloc(), Blank::new(1))
+    long::<Brand>(&rt, rt.alloc(), Blank::new(1))
 }
