@@ -20,7 +20,7 @@ _sarquteb_ntpd() {
     _sarquteb_words
     COMPREPLY=()
     if [[ ${#words[@]} -eq 2 ]]; then
-        _sarquteb_offer "serve once --help --version"
+        _sarquteb_offer "serve once rehearse --help --version"
     elif [[ ${#words[@]} -eq 3 && ${words[1]} == serve ]]; then
         compopt -o filenames
         mapfile -t COMPREPLY < <(compgen -f -- "${words[2]}")

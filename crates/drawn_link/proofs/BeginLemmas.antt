@@ -1,12 +1,9 @@
 -- How a link begins.
-use Rattle.std.proofs.Common.{◌≡◌, ℕ, zero, suc, ◌+◌, ◌*◌, ◌<◌, ◌≤◌, ◌^◌, Bool, true, false, cond, None, List, [], ◌∷◌, ◌++◌, length, refl, sym, ap, subst, ◌∙◌, arith, length-append}
-use Rattle.std.specs.Prelude.{max}
-use Rattle.std.proofs.lemmas.Bool.{cond_both}
+use Rattle.std.proofs.Common.{◌≡◌, ℕ, suc, ◌+◌, ◌*◌, ◌≤◌, Bool, true, false, cond, None, [], ◌∷◌, ◌++◌, length, refl, sym, ap, subst, ◌∙◌, arith, length-append}
 use Rattle.std.proofs.lemmas.List.{append-nil}
 use Rattle.fixed_time.specs.declared.time.Ntp64.{Ntp64}
 use Rattle.recency.specs.declared.limits.Limits.{Limits}
 use Rattle.server_core.specs.declared.class.Ask.{Ask}
-use Rattle.server_core.specs.declared.op.Op.{Op}
 use Rattle.server_core.specs.declared.op.Op.TheVariants.{Arrive}
 use Rattle.server_core.specs.Books.{BookParts}
 use Rattle.server_core.specs.Histories.{IsLegal, state_after_all}
@@ -16,10 +13,10 @@ use Rattle.server_core.proofs.JournalLemmas.{stop_in-append}
 use Rattle.shared_book.specs.declared.common.Common.{Common}
 use Rattle.sys_vars.specs.declared.published.Record.{Record}
 use Rattle.sys_vars.specs.Opening.{IsOpening}
-use Rattle.drawn_link.specs.Arrivals.{ask_of, first_arrival, first_arrivals}
-use Rattle.drawn_link.specs.Links.{IsBegun, IsDrawn, IsOpeningState}
+use Rattle.drawn_link.specs.Arrivals.{ask_of, first_arrivals}
+use Rattle.drawn_link.specs.Links.{IsBegun, IsDrawn}
 use Rattle.drawn_link.specs.Services.{Runs}
-use Rattle.drawn_link.specs.declared.arrivals.TheConstants.{CLIENTS}
+use Rattle.draws.specs.declared.clients.TheConstants.{CLIENTS}
 use Rattle.drawn_link.specs.declared.begin.TheConstants.{MAX_AGE, MAX_DEPTH, MIN_DEPTH, ORIGIN, SECOND}
 use Rattle.drawn_link.specs.declared.link.TheConstants.{HERE, SALT}
 use Rattle.drawn_link.proofs.GoingLemmas.{Runs-one, legal-Runs, legal-arrive, reached-Runs}

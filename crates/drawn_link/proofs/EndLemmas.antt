@@ -1,19 +1,17 @@
 -- What a listing over a link came to.
-use Rattle.std.proofs.Common.{◌≡◌, ◌⊎◌, ℕ, ◌+◌, ◌<◌, ◌≤◌, ◌^◌, Option, Some, None, Result, Ok, Err, List, [], ◌∷◌, ◌++◌, length, inl, inr, refl, sym, ap, subst, ◌∙◌, arith}
-use Rattle.std.specs.List.{All, AllByRecursion}
+use Rattle.std.proofs.Common.{◌≡◌, ℕ, ◌+◌, ◌<◌, ◌≤◌, ◌^◌, Option, Some, Result, Ok, Err, List, [], ◌∷◌, ◌++◌, length, inl, inr, sym, subst, ◌∙◌, arith}
+use Rattle.std.specs.List.{AllByRecursion, count_by}
 use Rattle.std.proofs.lemmas.List.{append-nil}
 use Rattle.std.proofs.lemmas.List.Elements.{recursion_from_All}
 use Rattle.access_rules.specs.declared.rules.Rule.{Rule}
-use Rattle.access_rules.specs.Rules.{IsPlain}
 use Rattle.edge_traits.specs.declared.port.Event.{Event}
 use Rattle.edge_traits.specs.declared.port.Event.TheVariants.{Took, Silence, Sent}
-use Rattle.edge_traits.specs.Told.{gained}
 use Rattle.list_telling.specs.Histories.{AreTellableOps, HaveFlags, IsServersHistory, telling_of}
 use Rattle.list_telling.proofs.Told.{answer-told, server-tells}
 use Rattle.mru_items.specs.declared.query.Query.{Query}
 use Rattle.mru_items.specs.Queries.{IsQuery}
 use Rattle.mru_read.specs.Pages.{IsTellableRow}
-use Rattle.mrulist_coverage.specs.Coverage.{Covers, CoversLast}
+use Rattle.mrulist_coverage.specs.Coverage.{CoversLast}
 use Rattle.mrulist_coverage.specs.Tellings.{IsTelling, IsToldFrom, Telling, nothing_known}
 use Rattle.mrulist_reader.specs.declared.listing.Listing.{Listing}
 use Rattle.mrulist_reader.specs.Readers.{listing_dialogue, new_reader}
@@ -34,7 +32,6 @@ use Rattle.server_core.specs.Moves.{HaveMoments}
 use Rattle.server_core.specs.States.{ServerState}
 use Rattle.shared_book.specs.declared.common.Common.{Common}
 use Rattle.sys_vars.specs.declared.published.Record.{Record}
-use Rattle.sys_vars.specs.Opening.{opening_record}
 use Rattle.wire.specs.declared.wire.WireEvent.{WireEvent}
 use Rattle.wire.specs.Placing.{places_in}
 use Rattle.wire.specs.Wires.{AreListing, IsHonest, IsWorkers, client_events, worker_events}
@@ -43,10 +40,9 @@ use Rattle.wire.proofs.Walks.{wire-told}
 use Rattle.worker.specs.declared.act.Act.{Act}
 use Rattle.worker.specs.Acts.{AreActs, Climbs, places_of}
 use Rattle.drawn_link.specs.Links.{IsDrawn, IsOpeningState}
-use Rattle.drawn_link.specs.Runs.{IsEnded, IsListed, listing_query}
+use Rattle.drawn_link.specs.Runs.{IsEnded, IsListed, is_sent, listing_query}
 use Rattle.drawn_link.specs.declared.run.LinkEnd.{LinkEnd}
 use Rattle.drawn_link.specs.declared.link.TheConstants.{HERE, SALT}
-use Rattle.drawn_link.specs.declared.begin.TheConstants.{MAX_DEPTH, ORIGIN}
 use Rattle.drawn_link.proofs.WireLemmas.{heard-AreActs}
 
 -- what a client sends that lists the clients of a server
@@ -148,14 +144,16 @@ covers-of listed events t places is telling told listing same =
 
 -- all of it, where both ends are here
 ended-here : AreListings → (end : LinkEnd) (common : Common) (queue : List (List ℕ)) → IsQuery listing_query → IsDrawn common HERE HERE end.book end.acts.items end.wire queue → common.salt ≡ SALT
-    → AreTellableOps end.book.journal → HaveMoments end.book.journal → IsListed end.result (client_events end.wire) → end.places ≡ places_in HERE end.acts.items end.wire → IsEnded end
-ended-here sends end common queue query is salt tellable moments listed places_are =
+    → AreTellableOps end.book.journal → HaveMoments end.book.journal → IsListed end.result (client_events end.wire) → end.given ≡ count_by is_sent (client_events end.wire)
+    → end.places ≡ places_in HERE end.acts.items end.wire → IsEnded end
+ended-here sends end common queue query is salt tellable moments listed requests places_are =
     record {
       opening = is.opening;
       opens = is.opens;
       history = history;
       begins = is.begins;
       ran = listed;
+      requests = requests;
       told = told;
       covers = covers-of end.result (client_events end.wire) telling end.places listed (server-tells SALT HERE.ip is.opening end.book.journal history) told;
     }
@@ -194,9 +192,10 @@ listing-query = record {
 
 -- all of it
 pub IsEnded-drawn : (end : LinkEnd) (common : Common) (server client : Addr) (queue : List (List ℕ)) → IsDrawn common server client end.book end.acts.items end.wire queue
-    → AreTellableOps end.book.journal → HaveMoments end.book.journal → IsListed end.result (client_events end.wire) → end.places ≡ places_in HERE end.acts.items end.wire → IsEnded end
-IsEnded-drawn end common server client queue is tellable moments listed places_are =
+    → AreTellableOps end.book.journal → HaveMoments end.book.journal → IsListed end.result (client_events end.wire) → end.given ≡ count_by is_sent (client_events end.wire)
+    → end.places ≡ places_in HERE end.acts.items end.wire → IsEnded end
+IsEnded-drawn end common server client queue is tellable moments listed requests places_are =
     ended-here listings-sent end common queue listing-query
     (subst (λ (it : Addr). IsDrawn common HERE it end.book end.acts.items end.wire queue) is.client_is
     (subst (λ (it : Addr). IsDrawn common it client end.book end.acts.items end.wire queue) is.server_is is))
-    is.salt_is tellable moments listed places_are
+    is.salt_is tellable moments listed requests places_are

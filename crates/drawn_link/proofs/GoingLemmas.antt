@@ -1,8 +1,8 @@
 -- A server that goes on by legal operations.
-use Rattle.std.proofs.Common.{◌≡◌, ◌<◌, ◌≤◌, ◌+◌, ◌-◌, ◌^◌, ℕ, Bool, true, false, cond, Option, Some, None, Result, Ok, Err, OnOk, List, [], ◌∷◌, ◌++◌, length, refl, sym, ap, subst, ◌∙◌, append_assoc, length-append, arith}
+use Rattle.std.proofs.Common.{◌≡◌, ◌<◌, ◌-◌, ◌^◌, ℕ, Bool, true, false, cond, Option, Some, None, Result, Ok, Err, List, [], ◌∷◌, ◌++◌, length, refl, sym, ap, subst, ◌∙◌, append_assoc}
 use Rattle.std.proofs.lemmas.Bool.{leb-false}
 use Rattle.std.proofs.lemmas.List.{append-nil}
-use Rattle.std.specs.Prelude.{nat_le, not, ◌&&◌}
+use Rattle.std.specs.Prelude.{nat_le}
 use Rattle.std.specs.List.{AllByRecursion}
 use mathlib.Core.List.{IsPrefix}
 use Rattle.server_core.specs.declared.class.Ask.{Ask}
@@ -13,10 +13,10 @@ use Rattle.server_core.specs.declared.op.Stop.{Stop as Stopping}
 use Rattle.server_core.specs.declared.op.TheConstants.{MAX_ENTRIES}
 use Rattle.server_core.specs.declared.step.Reply.{Reply}
 use Rattle.server_core.specs.declared.step.StepFault.{StepFault}
-use Rattle.server_core.specs.Books.{BookParts, stepped}
-use Rattle.server_core.specs.Histories.{AreSteps, IsLegal, IsLegalAt, IsStep, accepted, state_after_all}
+use Rattle.server_core.specs.Books.{BookParts}
+use Rattle.server_core.specs.Histories.{AreSteps, IsLegal, IsLegalAt, state_after_all}
 use Rattle.server_core.specs.States.{ServerState, refusal_after, refusal_of, state_after, stop_in}
-use Rattle.server_core.proofs.HistoryLemmas.{IsLegal-append, journal-AreSteps, state-AreSteps}
+use Rattle.server_core.proofs.HistoryLemmas.{IsLegal-append}
 use Rattle.drawn_link.specs.Arrivals.{IsAmidst}
 use Rattle.drawn_link.specs.Services.{Runs}
 

@@ -1,5 +1,5 @@
 -- A link between two calls, as it goes on.
-use Rattle.std.proofs.Common.{◌≡◌, ℕ, Bool, true, false, List, [], ◌∷◌, ◌++◌, length, refl, sym, ap, subst, ◌∙◌, append_assoc, arith}
+use Rattle.std.proofs.Common.{◌≡◌, ℕ, Bool, true, false, List, [], ◌∷◌, ◌++◌, length, refl, sym, ap, subst, ◌∙◌, arith}
 use Rattle.std.specs.Prelude.{Contains}
 use Rattle.std.specs.List.{AllByRecursion}
 use Rattle.std.proofs.lemmas.List.{append-nil}
@@ -21,9 +21,9 @@ use Rattle.worker.proofs.AddingLemmas.{Climbs-then}
 use Rattle.std.proofs.lemmas.Grind.{flat_map-append}
 use Rattle.drawn_link.specs.declared.serving.Service.{Service}
 use Rattle.drawn_link.specs.Arrivals.{first_arrivals}
-use Rattle.drawn_link.specs.declared.arrivals.TheConstants.{CLIENTS}
+use Rattle.draws.specs.declared.clients.TheConstants.{CLIENTS}
 use Rattle.drawn_link.specs.Links.{IsDrawn, WasSent, queue_after}
-use Rattle.drawn_link.specs.Services.{AreServices, IsGiven, Runs, acts_of, grams_in, service_events}
+use Rattle.drawn_link.specs.Services.{IsGiven, Runs, acts_of, grams_in, service_events}
 use Rattle.drawn_link.proofs.GoingLemmas.{Runs-then, front-Runs, legal-Runs, reached-Runs}
 use Rattle.drawn_link.proofs.ServiceLemmas.{Runs-AreServices}
 use Rattle.drawn_link.proofs.WireLemmas.{AreActs-services, AreCarried-then, Climbs-services, all-queued, all-weaker, behind, behind-has, carried-services, client-services, client_events-then, sent-services, worker_events-then}

@@ -1,5 +1,5 @@
 -- How a datagram that a server takes becomes an act.
-use Rattle.std.proofs.Common.{◌≡◌, ◌⊎◌, ℕ, ◌+◌, ◌≤◌, Bool, true, false, Option, Some, None, List, [], ◌∷◌, ◌++◌, length, inl, inr, refl, sym, ap, subst, ◌∙◌, arith, length-append}
+use Rattle.std.proofs.Common.{◌≡◌, ℕ, ◌+◌, false, Some, None, List, [], ◌∷◌, ◌++◌, length, inl, inr, refl, sym, ap, subst, ◌∙◌, arith, length-append}
 use Rattle.net_addr.specs.declared.addr.Addr.{Addr}
 use Rattle.sys_vars.specs.declared.context.Context.{Context}
 use Rattle.server_core.specs.declared.class.Class.{Class}
@@ -21,7 +21,7 @@ use Rattle.worker.specs.declared.act.Act.{Act}
 use Rattle.worker.specs.declared.act.ActKind.{ActKind}
 use Rattle.worker.specs.declared.act.ActKind.TheVariants.{Silent}
 use Rattle.worker.specs.declared.carry.Carry.{Carry}
-use Rattle.worker.specs.Acts.{Climbs, IsAct, kind_by, place_in}
+use Rattle.worker.specs.Acts.{IsAct, kind_by, place_in}
 use Rattle.worker.specs.Serving.{Becomes}
 use Rattle.shared_book.proofs.EntryLemmas.{prefix_length}
 use Rattle.worker.proofs.AddingLemmas.{Climbs-lower}

@@ -1,7 +1,7 @@
 -- What is carried over a wire, as it grows.
-use Rattle.std.proofs.Common.{◌≡◌, ◌⊎◌, ℕ, ◌+◌, ◌≤◌, Bool, true, false, cond, List, [], ◌∷◌, ◌++◌, length, take, inl, inr, refl, sym, ap, subst, ◌∙◌, append_assoc, arith}
+use Rattle.std.proofs.Common.{◌≡◌, ◌⊎◌, ℕ, Bool, List, [], ◌∷◌, ◌++◌, length, take, inl, inr, refl, sym, ap, subst, ◌∙◌, arith}
 use Rattle.std.specs.Prelude.{◌==◌, Contains, map}
-use Rattle.std.specs.List.{AllByRecursion, flat_map}
+use Rattle.std.specs.List.{AllByRecursion}
 use Rattle.std.proofs.lemmas.Bool.{cond_both}
 use Rattle.std.proofs.lemmas.List.{append-nil, take_all}
 use Rattle.std.proofs.lemmas.List.Elements.{Contains-append_cases, Contains-append_left, Contains-append_right}
@@ -21,11 +21,11 @@ use Rattle.worker.specs.declared.act.Act.{Act}
 use Rattle.worker.specs.Acts.{AreActs, Climbs, place_in, places_of}
 use Rattle.worker.specs.Doings.{heard}
 use Rattle.worker.proofs.ActLemmas.{AreActs-longer, AreActs-then}
-use Rattle.worker.proofs.AddingLemmas.{Climbs-lower, Climbs-then}
+use Rattle.worker.proofs.AddingLemmas.{Climbs-then}
 use Rattle.shared_book.proofs.EntryLemmas.{prefix_length}
 use Rattle.drawn_link.specs.declared.serving.Service.{Service}
 use Rattle.drawn_link.specs.Links.{WasSent, fate_of, placed, queue_after, state_after}
-use Rattle.drawn_link.specs.Services.{AreServices, IsService, Runs, acts_of, grams_in, service_events}
+use Rattle.drawn_link.specs.Services.{AreServices, IsService, acts_of, grams_in, service_events}
 use Rattle.drawn_link.proofs.GoingLemmas.{front-Runs, reached-Runs}
 use Rattle.drawn_link.proofs.ServiceLemmas.{Runs-AreServices}
 

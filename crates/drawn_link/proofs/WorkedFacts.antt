@@ -1,20 +1,8 @@
--- The constants by their numbers, draws by example, and what a datagram's number makes of a queue.
+-- The constants by their numbers, and what a datagram's number makes of a queue.
 use Rattle.std.proofs.Common.{◌≡◌, ◌*◌, ◌^◌, false, [], ◌∷◌, refl}
-use Rattle.drawn_link.specs.Draws.{drawn, next_state}
 use Rattle.drawn_link.specs.Links.{placed, queue_after}
-use Rattle.drawn_link.specs.declared.arrivals.TheConstants.{CLIENTS}
 use Rattle.drawn_link.specs.declared.begin.TheConstants.{MAX_AGE, MAX_DEPTH, MIN_DEPTH, ORIGIN, SECOND}
-use Rattle.drawn_link.specs.declared.draws.TheConstants.{FACTOR, INCREMENT}
 use Rattle.drawn_link.specs.declared.link.TheConstants.{DRAWN_GIVES, TICK}
-
-FACTOR-is : FACTOR ≡ 6364136223846793005
-FACTOR-is = refl
-
-INCREMENT-is : INCREMENT ≡ 1442695040888963407
-INCREMENT-is = refl
-
-CLIENTS-is : CLIENTS ≡ 600
-CLIENTS-is = refl
 
 MIN_DEPTH-is : MIN_DEPTH ≡ 64
 MIN_DEPTH-is = refl
@@ -39,16 +27,6 @@ TICK-is = refl
 
 DRAWN_GIVES-is : DRAWN_GIVES ≡ 400
 DRAWN_GIVES-is = refl
-
--- the state wraps at 64 bits
-first_state : next_state 7 ≡ 9098160460397411210
-first_state = refl
-
-first_draw : drawn 7 ≡ 1059165278
-first_draw = refl
-
-second_draw : drawn (next_state 7) ≡ 2052263231
-second_draw = refl
 
 -- one is lost, one comes twice, one comes early, and one waits at the end
 each_fate : placed 0 (1 ∷ []) (placed 1 (2 ∷ []) (placed 2 (3 ∷ []) (placed 3 (4 ∷ []) ((0 ∷ []) ∷ [])))) ≡ (3 ∷ []) ∷ (0 ∷ []) ∷ (4 ∷ []) ∷ (2 ∷ []) ∷ (2 ∷ []) ∷ []

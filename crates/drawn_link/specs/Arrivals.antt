@@ -1,16 +1,11 @@
 -- The clients that arrive at a server: our own rule.
-use Rattle.std.specs.Prelude.{ℕ, zero, suc, ◌+◌, ◌*◌, ◌/◌, ◌%◌, ◌^◌, pos, List, [], ◌∷◌, ◌++◌}
+use Rattle.std.specs.Prelude.{ℕ, zero, suc, ◌+◌, ◌*◌, ◌^◌, pos, List, [], ◌∷◌, ◌++◌}
 use Rattle.std.proofs.Common.{lit≤}
+use Rattle.draws.specs.Clients.{client_addr}
 use Rattle.mac_keys.specs.declared.checking.Auth.TheVariants.{Absent}
-use Rattle.net_addr.specs.declared.addr.Addr.{Addr}
-use Rattle.net_addr.specs.declared.addr.Ip.TheVariants.{V4}
 use Rattle.server_core.specs.declared.class.Ask.{Ask}
 use Rattle.server_core.specs.declared.op.Op.{Op}
 use Rattle.server_core.specs.declared.op.Op.TheVariants.{Publish, Arrive, Look, Read, Sweep, Stop}
-
--- the address of the client of a number
-abbrev pub client_addr : ℕ → Addr
-client_addr number = record { ip = V4 (10 ∷ 0 ∷ number / 256 ∷ number % 256 ∷ []); port = 123 }
 
 -- what it asks
 abbrev pub ask_of : ℕ → Ask

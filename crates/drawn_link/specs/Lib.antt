@@ -1,4 +1,3 @@
-pub mod Draws
 pub mod Arrivals
 pub mod Services
 pub mod Links

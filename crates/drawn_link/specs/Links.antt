@@ -15,8 +15,8 @@ use Rattle.wire.specs.Wires.{AreCarried, worker_events}
 use Rattle.worker.specs.declared.act.Act.{Act}
 use Rattle.worker.specs.Acts.{AreActs, Climbs, places_of}
 use Rattle.drawn_link.specs.Arrivals.{first_arrivals}
-use Rattle.drawn_link.specs.Draws.{drawn, next_state}
-use Rattle.drawn_link.specs.declared.arrivals.TheConstants.{CLIENTS}
+use Rattle.draws.specs.Draws.{drawn, next_state}
+use Rattle.draws.specs.declared.clients.TheConstants.{CLIENTS}
 use Rattle.drawn_link.specs.declared.begin.TheConstants.{MAX_AGE, MAX_DEPTH, MIN_DEPTH, ORIGIN, SECOND}
 use Rattle.drawn_link.specs.declared.link.TheConstants.{HERE, SALT}
 use Rattle.drawn_link.specs.declared.settling.TheConstants.{LAST}
@@ -68,7 +68,7 @@ pub record IsDrawn (common : Common) (server client : Addr) (book : BookParts) (
   pub queued : AllByRecursion (WasSent client log) queue
 
 -- a link between two calls: its server, what the parts of the server know, the addresses of its ends, the acts of its
--- worker, what happened at both ends, how many gives there were, and how many takes that found nothing
+-- worker, what happened at both ends, and how many takes found nothing
 pub record LinkParts : Type 0 where
   pub book : BookParts
   pub common : Common
@@ -76,7 +76,6 @@ pub record LinkParts : Type 0 where
   pub client : Addr
   pub acts : List Act
   pub log : List WireEvent
-  pub given : ℕ
   pub quiets : ℕ
 
 -- a queue after this datagram came to it, by this number: it is lost, queued twice, at the front, or at the end

@@ -1,28 +1,13 @@
 ghost use Rattle.std.specs.Prelude.{◌≡◌, ◌<◌, IfOk};
 ghost use Rattle.std.specs.List.{AllByRecursion};
-ghost use Rattle.drawn_link.specs.Arrivals.{ask_of, client_addr, IsAmidst};
-ghost use Rattle.drawn_link.specs.declared.arrivals.TheConstants.{CLIENTS};
+ghost use Rattle.drawn_link.specs.Arrivals.{ask_of, IsAmidst};
+ghost use Rattle.draws.specs.declared.clients.TheConstants.{CLIENTS};
 
-use crate::draws::Draws;
+use draws::{CLIENTS, Draws, client_addr};
 use fixed_time::Ntp64;
 use mac_keys::Auth;
-use net_addr::{Addr, Ip};
 use server_core::{Ask, Op};
 use std::alloc::{AllocError, Global};
-
-/// How many clients there are.
-pub const CLIENTS: u64 = 600;
-
-/// The address of the client of this number.
-fn client_addr(number: u64) -> Addr
-    requires { number < CLIENTS }
-    ensures { result ≡ client_addr number }
-{
-    Addr {
-        ip: Ip::V4([10, 0, (number / 256) as u8, (number % 256) as u8]),
-        port: 123,
-    }
-}
 
 /// What the client of this number asks.
 pub(crate) fn ask_of(number: u64) -> Ask

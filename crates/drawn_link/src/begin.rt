@@ -1,9 +1,10 @@
 ghost use Rattle.std.specs.Prelude.{◌≡◌, ◌<◌, ◌+◌, ◌*◌, OnOk, IfOk};
 ghost use Rattle.drawn_link.specs.Links.{IsBegun};
-ghost use Rattle.drawn_link.specs.declared.arrivals.TheConstants.{CLIENTS};
+ghost use Rattle.draws.specs.declared.clients.TheConstants.{CLIENTS};
 ghost use Rattle.drawn_link.specs.declared.begin.TheConstants.{MAX_AGE, MAX_DEPTH, MIN_DEPTH, SECOND};
 
-use crate::arrivals::{CLIENTS, ask_of};
+use crate::arrivals::ask_of;
+use draws::CLIENTS;
 use fixed_time::Ntp64;
 use recency::Limits;
 use server_core::{Book, Op, StepFault};

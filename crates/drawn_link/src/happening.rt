@@ -2,7 +2,7 @@ ghost use Rattle.std.specs.Prelude.{◌≡◌};
 ghost use Rattle.drawn_link.specs.Services.{Runs};
 
 use crate::arrivals::drawn_ops;
-use crate::draws::Draws;
+use draws::Draws;
 use server_core::{Book, Op, perform};
 use std::alloc::{AllocError, Global};
 

@@ -1,7 +1,7 @@
 //! A drawn link: a server behind the port of a query tool in one process, where a number draws what
 //! else the server does, and which datagrams are lost, come twice or come early.
 //!
-//! Layer 7. Stands on: `wire`, `list_telling`, `worker`, `giving`, `shared_book`, `server_core`,
+//! Layer 7. Stands on: `draws`, `wire`, `list_telling`, `worker`, `giving`, `shared_book`, `server_core`,
 //! `mrulist_run`, `mrulist_coverage`, `mrulist_reader`, `ntpq_client`, `mru_read`, `mru_items`,
 //! `recency`, `access_rules`, `sys_vars`, `mac_keys`, `edge_traits`, `net_addr`, `fixed_time`.
 //! Promises: whatever number draws a link, what a listing over it took is told from the one history of
@@ -9,9 +9,8 @@
 #![tactic(auto)]
 
 mod answering;
-pub mod arrivals;
+mod arrivals;
 mod begin;
-pub mod draws;
 mod happening;
 mod kinds;
 pub mod link;
@@ -21,7 +20,5 @@ mod settling;
 #[cfg(test)]
 mod tests;
 
-pub use arrivals::CLIENTS;
-pub use draws::Draws;
 pub use link::{DRAWN_GIVES, DrawnLink, TICK};
 pub use run::{LinkEnd, link_run};

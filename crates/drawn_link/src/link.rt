@@ -2,10 +2,10 @@ ghost use Rattle.std.specs.Prelude.{◌≡◌, ℕ, List, [], IfOk};
 ghost use Rattle.drawn_link.specs.Links.{IsDrawn};
 ghost use Rattle.drawn_link.specs.Services.{IsGiven, Runs};
 
-use crate::draws::Draws;
 use crate::happening::happen;
 use crate::serving::{Service, Visit, serve};
 use crate::settling::{news_of, settle};
+use draws::Draws;
 use edge_traits::{Event, Octets, Port, PortFault, Salt, Taken};
 use net_addr::{Addr, Ip, is_same_addr};
 use server_core::Book;
@@ -64,7 +64,6 @@ impl Model for DrawnLink {
       client = l.client;
       acts = l.acts.items;
       log = l.log.items;
-      given = l.given;
       quiets = l.quiets;
     } };
 
@@ -99,7 +98,6 @@ impl DrawnLink {
           client = client;
           acts = [];
           log = [];
-          given = 0;
           quiets = 0;
         } }
     {
@@ -117,13 +115,6 @@ impl DrawnLink {
             given: 0,
             quiets: 0,
         }
-    }
-
-    /// How many gives there were; it stays at the greatest number that there is.
-    pub fn given(&self) -> u32
-        ensures { result ≡ self.now.given }
-    {
-        self.given
     }
 
     /// The server, what its worker did, and what happened at both ends.

@@ -6,8 +6,8 @@ ghost use Rattle.edge_traits.specs.declared.octets.TheConstants.{MAX_OCTETS};
 ghost use Rattle.edge_traits.specs.declared.port.Event.{Event};
 ghost use Rattle.wire.specs.declared.wire.WireEvent.{WireEvent};
 
-use crate::draws::Draws;
 use crate::serving::{Service, Visit};
+use draws::Draws;
 use edge_traits::{Event, Octets};
 use net_addr::Addr;
 use std::alloc::{AllocError, Global};

@@ -1,10 +1,11 @@
 use crate::run::{LinkEnd, link_run};
+use draws::Draws;
 use std::test::Fail;
 
 /// What a listing over a link came to, in a few numbers: requests, places and, where it completed,
 /// pages, refusals and rows.
 fn shown(end: &LinkEnd) -> [u64; 5] {
-    let given = u64::from(end.given);
+    let given = end.given;
     let places = end.places.as_slice().len() as u64;
     match &end.result {
         Ok(listing) => [
@@ -21,8 +22,8 @@ fn shown(end: &LinkEnd) -> [u64; 5] {
 #[test]
 fn a_number_draws_one_listing(rt: HostRuntime) -> Result<(), Fail> {
     for number in [7, 0, u64::MAX] {
-        let first = shown(&link_run(rt.alloc(), number)?);
-        let again = link_run(rt.alloc(), number)?;
+        let first = shown(&link_run(rt.alloc(), Draws::of(number))?);
+        let again = link_run(rt.alloc(), Draws::of(number))?;
         if let Err(fault) = &again.result {
             let _ = println!(rt; "{fault:?}");
         }

@@ -1,4 +1,5 @@
 pub mod Runs
+pub mod Statuses
 pub use Rattle.mrulist_coverage.specs.Coverage
 pub use Rattle.mrulist_coverage.specs.Still
 pub use Rattle.mrulist_coverage.specs.Tellings

@@ -10,7 +10,9 @@
 
 pub mod fault;
 pub mod running;
+pub mod statuses;
 
 pub use fault::RunFault;
 pub use mrulist_reader::Listing;
 pub use running::run;
+pub use statuses::{fault_status, run_status};

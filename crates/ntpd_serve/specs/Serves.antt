@@ -5,10 +5,10 @@ use Rattle.edge_traits.specs.declared.salt.Salt.{Salt}
 use Rattle.fixed_time.specs.declared.time.Ntp64.{Ntp64}
 use Rattle.net_addr.specs.declared.addr.Addr.{Addr}
 use Rattle.mac_keys.specs.declared.keys.Key.{Key}
+use Rattle.responders.specs.Outcomes.{IsSessionOf}
 use Rattle.responders.specs.declared.session.Outcome.{Outcome}
 use Rattle.responders.specs.declared.session.Session.{Session}
 use Rattle.setup.specs.Setups.{IsSetUp}
-use Rattle.ntpd_serve.specs.Sessions.{IsSessionOf}
 use Rattle.conf_file.specs.ConfTexts.{IsConfText, IsRefusedText as IsRefusedConf}
 use Rattle.conf_file.specs.declared.conf.Conf.{Conf}
 use Rattle.mac_keys.specs.KeyTexts.{IsRefusedText as AreRefusedKeys}

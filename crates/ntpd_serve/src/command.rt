@@ -10,7 +10,9 @@ ghost use Rattle.server_core.specs.declared.op.Why.{Why};
 ghost use Rattle.setup.specs.Files.{AreKeys, HasConf};
 ghost use Rattle.setup.specs.Setups.{binds_for};
 ghost use Rattle.responders.specs.declared.session.Outcome.{Outcome};
-ghost use Rattle.ntpd_serve.specs.Command.{AsksOnce, AsksServe, AsksFor, IsNoCommand, EndsBefore, IsHostEnding, common_of};
+ghost use Rattle.ntpd_serve.specs.Command.{AsksOnce, AsksRehearse, AsksServe, AsksFor, IsNoCommand, EndsBefore, IsHostEnding, common_of};
+ghost use Rattle.rehearsal.specs.Lines.{rehearsal_lines};
+ghost use Rattle.rehearsal.specs.Rehearsals.{IsRehearsed};
 ghost use Rattle.ntpd_serve.specs.Serves.{HasRefusedFile, IsDueRefusal, Serves};
 ghost use Rattle.ntpd_serve.specs.Sessions.{IsStoppedFor, facts_of, outcome_status, session_lines};
 ghost use Rattle.ntpd_serve.specs.declared.command.Command.{Command};
@@ -24,11 +26,13 @@ use crate::serve::serve_file;
 use edge_traits::{Clock, Gate, Host, HostFault, Port, Sink, Status};
 use mac_keys::KeyTable;
 use net_addr::{Addr, read_named};
+use rehearsal::{Rehearsed, rehearse};
 use responders::Session;
 use shared_book::Common;
 use std::alloc::Global;
 use std::sync::Wait;
 use std::thread::Threads;
+use text_words::read_decimal_u64;
 
 /// The port and the clock of a run of `once`, as it left them.
 #[derive(Drop)]
@@ -45,6 +49,8 @@ pub struct Ended<P: Port, C: Clock, S> {
     pub single: Option<Single<P, C>>,
     /// There where the run served by `serve`: the session as it was left.
     pub session: Option<Session<P, C>>,
+    /// There where the run rehearsed by `rehearse`: what was done.
+    pub rehearsed: Option<Rehearsed>,
     /// There where a read of a file failed: its source.
     pub source: Option<S>,
 }
@@ -52,7 +58,8 @@ pub struct Ended<P: Port, C: Clock, S> {
 /// The program, over any host, gate and sink: the words that follow its name are its command.
 ///
 /// `once ADDR:PORT` serves one datagram at that address. `serve FILE` serves as the configuration file
-/// says, by a worker at each address where it listens and a pilot. Other words are no command.
+/// says, by a worker at each address where it listens and a pilot. `rehearse N` rehearses by that
+/// number in this process. Other words are no command.
 pub fn ntpd<R: Threads + Wait + Sync, H: Host, S: Sink, G: Gate + Sync>(
     rt: &R,
     alloc: Global,
@@ -90,8 +97,16 @@ where
         × Prints (session_lines (facts_of last) outcome) (outcome_status outcome) result.status
         (S.contents out.old) (S.contents out.new)) }
 
+    // `rehearse`: what was done by the number, and what was printed of it.
+    ensures rehearsed { IfSome result.rehearsed (λ left. (number : ℕ)
+        × AsksRehearse (map string_bytes words.now) number
+        × IsRehearsed number left
+        × Prints (rehearsal_lines number left) 0 result.status
+        (S.contents out.old) (S.contents out.new)) }
+
     // Otherwise the words are no command, or the host failed or had no memory, or a file is refused.
-    ensures before { IsNone result.single → IsNone result.session → (ending : Ending)
+    ensures before { IsNone result.single → IsNone result.session → IsNone result.rehearsed
+        → (ending : Ending)
         × EndsBefore H.S.faults (H.files host.old) (H.faults host.old) (H.faults host.new)
         result.source ending (map string_bytes words.now)
         × Reports ending result.status (S.contents out.old) (S.contents out.new) }
@@ -100,6 +115,7 @@ where
         → H.binds host.new ≡ H.binds host.old }
     ensures no_command { IsNoCommand (map string_bytes words.now) → IsNone result.single
         × IsNone result.session
+        × IsNone result.rehearsed
         × (H.binds host.new ≡ H.binds host.old)
         × Reports (Ending.Failed Failure.Words) result.status
         (S.contents out.old) (S.contents out.new) }
@@ -129,6 +145,7 @@ where
         None => ended_before(&Ending::Failed(Failure::Words), None, out),
         Some(Command::Once(at)) => once(alloc, &at, host, out),
         Some(Command::Serve(name)) => serve_file(rt, alloc, name, host, gate, out),
+        Some(Command::Rehearse(number)) => rehearse_number(rt, alloc, number, gate, out),
     }
 }
 
@@ -138,6 +155,8 @@ enum Command<'a> {
     Once(Addr),
     /// To serve as the file of this name says.
     Serve(&'a str),
+    /// To rehearse by this number.
+    Rehearse(u64),
 }
 
 /// The command that the words are.
@@ -165,6 +184,12 @@ fn command_of<'a>(command: &[u8], word: &'a str) -> Option<Command<'a>>
     if command == b"serve".as_slice() {
         return Some(Command::Serve(word));
     }
+    if command == b"rehearse".as_slice() {
+        return match read_decimal_u64(word.as_bytes()) {
+            Some(number) => Some(Command::Rehearse(number)),
+            None => None,
+        };
+    }
     None
 }
 
@@ -185,6 +210,7 @@ fn serve_single<P: Port, C: Clock, S: Sink, X>(
         × (HasCome events → ¬ Rose 1 (P.faults single.port) (P.faults left.port)
         → ¬ Rose 1 (S.faults out.old) (S.faults out.new) → IsServed result.status)) }
     ensures session { IsNone result.session }
+    ensures rehearsed { IsNone result.rehearsed }
     ensures address { IfSome result.single (λ left. P.address left.port ≡ P.address single.port) }
     ensures port_failed { result.status.0 ≡ 4
         → IsSomeAnd result.single (λ left. Rose 1 (P.faults single.port) (P.faults left.port)) }
@@ -204,7 +230,38 @@ fn serve_single<P: Port, C: Clock, S: Sink, X>(
         status,
         single: Some(Single { port, clock }),
         session: None,
+        rehearsed: None,
         source: None,
+    }
+}
+
+/// Rehearses by this number.
+fn rehearse_number<R: Threads + Wait + Sync, P: Port, C: Clock, X, S: Sink, G: Gate + Sync>(
+    rt: &R,
+    alloc: Global,
+    number: u64,
+    gate: &G,
+    out: &mut S,
+) -> Ended<P, C, X>
+    ensures rehearsed { IfSome result.rehearsed (λ left. IsRehearsed number left
+        × Prints (rehearsal_lines number left) 0 result.status
+        (S.contents out.old) (S.contents out.new)) }
+    ensures before { IsNone result.rehearsed → Reports (Ending.Failed Failure.NoMemory) result.status
+        (S.contents out.old) (S.contents out.new) }
+    ensures single { IsNone result.single }
+    ensures session { IsNone result.session }
+    ensures status { (result.status.0 ≡ 0) ⊎ (8 ≤ result.status.0) }
+    ensures sink_failed { result.status.0 ≡ 8 → Rose 1 (S.faults out.old) (S.faults out.new) }
+{
+    match rehearse(rt, alloc, number, gate, out) {
+        (status, Some(rehearsed)) => Ended {
+            status,
+            single: None,
+            session: None,
+            rehearsed: Some(rehearsed),
+            source: None,
+        },
+        (_, None) => ended_before(&Ending::Failed(Failure::NoMemory), None, out),
     }
 }
 
@@ -217,6 +274,7 @@ pub(crate) fn ended_before<P: Port, C: Clock, X, S: Sink>(
     ensures status { (result.status.0 ≡ status_of ending.now) ⊎ (8 ≤ result.status.0) }
     ensures single { IsNone result.single }
     ensures session { IsNone result.session }
+    ensures rehearsed { IsNone result.rehearsed }
     ensures source { result.source ≡ source }
     ensures reported { Reports ending.now result.status (S.contents out.old) (S.contents out.new) }
     ensures sink_failed { result.status.0 ≡ 8 → Rose 1 (S.faults out.old) (S.faults out.new) }
@@ -225,6 +283,7 @@ pub(crate) fn ended_before<P: Port, C: Clock, X, S: Sink>(
         status: report(ending, out),
         single: None,
         session: None,
+        rehearsed: None,
         source,
     }
 }
@@ -251,6 +310,7 @@ fn once<H: Host, S: Sink>(
         × Reports ending result.status (S.contents out.old) (S.contents out.new)) }
 
     ensures session { IsNone result.session }
+    ensures rehearsed { IsNone result.rehearsed }
 
     ensures not_words { result.status.0 ≢ 1 }
     ensures not_file { result.status.0 ≢ 2 }

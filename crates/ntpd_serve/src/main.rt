@@ -1,10 +1,12 @@
-//! The program `ntpd`: an NTP server, by `serve FILE`, or for one datagram, by `once ADDR:PORT`.
+//! The program `ntpd`: an NTP server, by `serve FILE`, or for one datagram, by `once ADDR:PORT`; and a
+//! rehearsal of server and query tool in one process, by `rehearse N`.
 //!
-//! Layer 7. Stands on: `setup`, `responders`, `worker`, `pilot`, `shared_book`, `giving`,
+//! Layer 7. Stands on: `rehearsal`, `setup`, `responders`, `worker`, `pilot`, `shared_book`, `giving`,
 //! `server_core`, `associations`, `mru_read`, `recency`, `access_rules`, `conf_file`, `sys_vars`,
-//! `mode6_frame`, `mac_keys`, `command_line`, `edge_traits`, `net_addr`, `fixed_time`.
+//! `mode6_frame`, `mac_keys`, `command_line`, `text_words`, `edge_traits`, `net_addr`, `fixed_time`.
 //! Promises: `serve` runs the session of its configuration, and hands it back with its one history;
-//! `once` gives the defined answer to one datagram and nothing else; each prints its lines, and each
+//! `once` gives the defined answer to one datagram and nothing else; `rehearse` does what its number
+//! draws; each prints its lines, and each
 //! status has its cause.
 #![tactic(auto)]
 

@@ -5,12 +5,13 @@ ghost use Rattle.conf_file.specs.declared.conf.Conf.{Conf};
 ghost use Rattle.edge_traits.specs.Told.{gained, Rose};
 ghost use Rattle.mac_keys.specs.declared.keys.Key.{Key};
 ghost use Rattle.server_core.specs.declared.op.Why.{Why};
+ghost use Rattle.responders.specs.Outcomes.{IsSessionOf};
 ghost use Rattle.responders.specs.declared.session.Outcome.{Outcome};
 ghost use Rattle.setup.specs.Files.{AreKeys, HasConf};
 ghost use Rattle.setup.specs.Setups.{binds_for};
 ghost use Rattle.ntpd_serve.specs.Ending.{Prints, Reports};
 ghost use Rattle.ntpd_serve.specs.Serves.{HasNoSession, HasRefusedFile, IsDueRefusal, Serves, failure_of_setup, source_of};
-ghost use Rattle.ntpd_serve.specs.Sessions.{IsSessionOf, IsStoppedFor, facts_of, outcome_status, session_lines};
+ghost use Rattle.ntpd_serve.specs.Sessions.{IsStoppedFor, facts_of, outcome_status, session_lines};
 ghost use Rattle.ntpd_serve.specs.declared.ending.Ending.{Ending};
 ghost use Rattle.ntpd_serve.specs.declared.ending.Failure.{Failure};
 
@@ -51,6 +52,7 @@ where
         (H.faults host.new) why result.source
         × Reports (Ending.Failed why) result.status (S.contents out.old) (S.contents out.new) }
     ensures single { IsNone result.single }
+    ensures rehearsed { IsNone result.rehearsed }
     ensures refused { (why : Failure) → IsDueRefusal (H.files host.old) name.now why
         → Reports (Ending.Failed why) result.status (S.contents out.old) (S.contents out.new)
         ⊎ ((result.status.0 ≡ 3) ⊎ (8 ≤ result.status.0)) }
@@ -74,6 +76,7 @@ where
                 status,
                 single: None,
                 session: Some(session),
+                rehearsed: None,
                 source: None,
             }
         }

@@ -308,10 +308,21 @@ fn is_no_command(
 fn words_that_are_no_command_are_refused(rt: HostRuntime) -> Result<(), Fail> {
     let texts = "|once|once nowhere|once 127.0.0.1|once ::1|once [::1]|once ::1:123\
         |once 127.0.0.1:0123|once 127.0.0.1:65536|once 127.0.0.1:123 twice|serve\
-        |serve ntp.conf twice|Once 127.0.0.1:123|Serve ntp.conf";
+        |serve ntp.conf twice|Once 127.0.0.1:123|Serve ntp.conf|rehearse|rehearse 007|rehearse -1\
+        |rehearse 18446744073709551616|rehearse 7 twice";
     for words in texts.split('|') {
         assert!(rt; is_no_command(&rt, rt.alloc(), words)?, "{words}");
     }
+    Ok(())
+}
+
+#[test]
+fn a_rehearsal_touches_no_host(rt: HostRuntime) -> Result<(), Fail> {
+    let alloc = rt.alloc();
+    let incoming = one(alloc, &REQUEST)?;
+    let failing = vec![in alloc; 0]?;
+    let run = run_over(&rt, alloc, "rehearse 7", incoming, Vec::new(alloc), failing)?;
+    assert!(rt; is_so(&run, 8, "", b"") && run.ended.rehearsed.is_some());
     Ok(())
 }
 

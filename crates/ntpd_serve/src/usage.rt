@@ -6,6 +6,7 @@ use command_line::Notice;
 /// How to call it.
 pub const HELP: &[u8] = b"usage: ntpd serve FILE        serve as this configuration file says
        ntpd once ADDR:PORT    serve one datagram at that address, as 127.0.0.1:123 or [::1]:123
+       ntpd rehearse N        serve and list in this process, as the number N draws it
        ntpd --help            print this
        ntpd --version         print the version
 ";

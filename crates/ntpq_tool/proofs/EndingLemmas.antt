@@ -12,7 +12,8 @@ use Rattle.ntpq_tool.specs.declared.words.Wanted.TheVariants.{Variables, Associa
 use Rattle.ntpq_tool.specs.declared.ending.Failure.{Failure}
 use Rattle.ntpq_tool.specs.declared.ending.Failure.TheVariants.{Words, Ask, BadReply, NoMemory}
 use Rattle.ntpq_tool.specs.Command.{IsCommand, IsNoCommand}
-use Rattle.ntpq_tool.specs.Ending.{Reports, fault_status, output_of, status_of}
+use Rattle.mrulist_run.specs.Statuses.{fault_status}
+use Rattle.ntpq_tool.specs.Ending.{Reports, output_of, status_of}
 use Rattle.ntpq_tool.specs.Runs.{Happens, Ran}
 
 -- no fault of asking has status 1

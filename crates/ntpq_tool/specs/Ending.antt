@@ -2,6 +2,7 @@
 use Rattle.std.specs.Prelude.{◌≡◌, ◌⊎◌, ℕ, Option, List, [], ◌∷◌, ◌++◌, codes, decimal, Result, Ok, Err}
 use Rattle.edge_traits.specs.Told.{gained, GainedFront}
 use Rattle.edge_traits.specs.declared.status.Status.{Status}
+use Rattle.mrulist_run.specs.Statuses.{fault_status}
 use Rattle.ntpq_client.specs.declared.fault.AskFault.{AskFault}
 use Rattle.ntpq_client.specs.declared.fault.AskFault.TheVariants as Fault
 use Rattle.ntpq_tool.specs.declared.ending.Failure.{Failure}
@@ -32,16 +33,6 @@ failure_line why = codes "ntpq: " ++ failure_text why ++ 10 ∷ []
 abbrev pub output_of : Result (List ℕ) Failure → List ℕ
 output_of (Ok report) = report
 output_of (Err why) = failure_line why
-
--- the exit status where an answer did not come
-abbrev pub fault_status : AskFault → ℕ
-fault_status Fault.Port = 3
-fault_status Fault.NoReply = 4
-fault_status (Fault.Refused code) = 5
-fault_status Fault.Incomplete = 6
-fault_status Fault.NoMemory = 9
-fault_status Fault.Flooded = 10
-fault_status Fault.Closed = 11
 
 -- the exit status of a failure
 abbrev pub failure_status : Failure → ℕ

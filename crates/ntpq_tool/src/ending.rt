@@ -1,7 +1,8 @@
 ghost use Rattle.std.specs.Prelude.{◌≡◌};
-ghost use Rattle.ntpq_tool.specs.Ending.{failure_status, fault_status, status_of};
+ghost use Rattle.ntpq_tool.specs.Ending.{failure_status, status_of};
 
 use edge_traits::{Status, Text};
+use mrulist_run::fault_status;
 use ntpq_client::AskFault;
 use ntpq_report::ReportFault;
 use std::alloc::AllocError;
@@ -52,18 +53,4 @@ fn failure_status(why: &Failure) -> Status
         Failure::BadReply => Status(7),
         Failure::NoMemory => Status(9),
     }
-}
-
-fn fault_status(fault: &AskFault) -> Status
-    ensures { result.0 ≡ fault_status fault.now }
-{
-    Status(match fault {
-        AskFault::Port => 3,
-        AskFault::NoReply => 4,
-        AskFault::Refused(_) => 5,
-        AskFault::Incomplete => 6,
-        AskFault::NoMemory => 9,
-        AskFault::Flooded => 10,
-        AskFault::Closed => 11,
-    })
 }

@@ -1,3 +1,1 @@
 mod WorkedFacts
-pub mod ServiceLemmas
-pub mod LinkLemmas

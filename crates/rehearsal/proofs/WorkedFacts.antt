@@ -1,25 +1,16 @@
--- The constant by its number, and fates by example.
-use Rattle.std.proofs.Common.{◌≡◌, ℕ, ◌-◌, ◌^◌, None, [], ◌∷◌, refl}
-use Rattle.net_addr.specs.declared.addr.Addr.{Addr}
-use Rattle.rehearsal.specs.declared.fate.Fate.TheVariants.{Lost, Twice, Front}
-use Rattle.rehearsal.specs.declared.link.TheConstants.{TICK}
-use Rattle.rehearsal.specs.declared.queued.Queued.{Queued}
-use Rattle.rehearsal.specs.Fates.{fated}
-use Rattle.rehearsal.specs.Links.{next_moment}
+-- What is printed of a rehearsal, by example.
+use Rattle.std.proofs.Common.{◌≡◌, refl}
+use Rattle.std.specs.Fmt.{digits}
+use Rattle.std.specs.Prelude.{codes, Err}
+use Rattle.mrulist_run.specs.declared.fault.RunFault.TheVariants.{Ask}
+use Rattle.ntpq_client.specs.declared.fault.AskFault.TheVariants.{NoReply}
+use Rattle.rehearsal.specs.Lines.{counts_line, fault_line, link_line, threads_line}
 
--- a sixteenth of a second
-TICK-is : TICK ≡ 2 ^ 28
-TICK-is = refl
+worked_threads : counts_line (record { times = 3564; controls = 286; silent = 246; clients = 596 }) ≡ codes "threads times 3564 variables 286 silent 246 clients 596\n"
+unfolding threads_line digits
+worked_threads = refl
 
--- the moment stays at the greatest that there is
-last_moment : next_moment (2 ^ 64 - 1) ≡ 2 ^ 64 - 1
-last_moment = refl
-
--- a datagram of these octets
-gram : Addr → ℕ → Queued
-gram from octet = record { from = from; octets = octet ∷ []; place = None }
-
--- one is lost, one comes twice, one comes early, and one beyond the fates waits at the end
-each_fate : (from : Addr) → fated (Lost ∷ Twice ∷ Front ∷ []) (gram from 1 ∷ gram from 2 ∷ gram from 3 ∷ gram from 4 ∷ []) (gram from 0 ∷ [])
-    ≡ gram from 3 ∷ gram from 0 ∷ gram from 2 ∷ gram from 2 ∷ gram from 4 ∷ []
-each_fate from = refl
+-- a listing that got no reply ends as the query tool does then
+worked_fault : link_line 8 (Err (Ask NoReply)) ≡ codes "link ended 4\n"
+unfolding fault_line digits
+worked_fault = refl

@@ -1,3 +1,4 @@
-pub mod Fates
-pub mod Services
-pub mod Links
+pub mod Lines
+pub mod Rehearsals
+pub use Rattle.drawn_session.specs.Sessions
+pub use Rattle.drawn_link.specs.Runs

@@ -1,18 +1,15 @@
-//! A rehearsal: a server and a query tool in one process, with no network between them.
+//! A rehearsal: both ends of the product in one process, from one number. A session of threads is
+//! served first, and then a listing is run over a link.
 //!
-//! Layer 7. Stands on: `server_core`, `sys_vars`, `mac_keys`, `edge_traits`, `net_addr`.
-//! Promises: what is given at a link is served by its server as the plan says, and what is taken is
-//! what the server answered, in the order that the plan made of it.
+//! Layer 7. Stands on: `drawn_session`, `drawn_link`, `draws`, `responders`, `server_core`,
+//! `mrulist_run`, `mrulist_reader`, `ntpq_client`, `command_line`, `edge_traits`.
+//! Promises: what is printed are the counts of the session and of the listing that it hands back; each
+//! status has its cause.
 #![tactic(auto)]
 
-mod answering;
-pub mod deed;
-pub mod fate;
-pub mod link;
-pub mod queued;
-mod serving;
+mod lines;
+pub mod rehearsing;
+#[cfg(test)]
+mod tests;
 
-pub use deed::{Deed, Ops, Plan};
-pub use fate::{Fate, Fates};
-pub use link::{Link, TICK};
-pub use queued::Queued;
+pub use rehearsing::{Rehearsed, rehearse};

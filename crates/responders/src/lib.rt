@@ -1,7 +1,7 @@
 //! A session of the server: workers and the pilot, each in a thread of its own, on one history.
 //!
 //! Layer 5. Stands on: `worker`, `pilot`, `shared_book`, `server_core`, `associations`,
-//! `edge_traits`, `turnstile`.
+//! `edge_traits`, `net_addr`, `turnstile`.
 //! Promises: whatever the threads do, there is one history that one thread could have made; each
 //! datagram that a worker took is answered as the sequential server answers it at its place there, or
 //! is carried; each request of the history is one act of one worker, and each publication is the

@@ -11,5 +11,5 @@ pub mod numbers;
 pub mod words;
 
 pub use lines::Lines;
-pub use numbers::{read_decimal, read_decimal_within};
+pub use numbers::{read_decimal, read_decimal_u64, read_decimal_within};
 pub use words::Words;

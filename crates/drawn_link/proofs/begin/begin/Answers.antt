@@ -1,6 +1,6 @@
 use Rattle.std.proofs.Common.{◌≡◌, ℕ, arith, subst}
 use Rattle.drawn_link.specs.Links.{IsBegun}
-use Rattle.drawn_link.specs.declared.arrivals.TheConstants.{CLIENTS}
+use Rattle.draws.specs.declared.clients.TheConstants.{CLIENTS}
 use Rattle.drawn_link.proofs.BeginLemmas.{IsBegun-none}
 use Rattle.drawn_link.proofs.begin.begin.Goals as goal
 

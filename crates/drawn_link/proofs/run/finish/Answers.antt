@@ -1,4 +1,5 @@
 use Rattle.std.proofs.Common.{◌≡◌, List, ap, refl, sym, subst, ◌∙◌}
+use Rattle.std.specs.List.{count_by}
 use Rattle.list_telling.specs.Histories.{AreTellableOps}
 use Rattle.server_core.specs.Moves.{HaveMoments}
 use Rattle.wire.specs.declared.wire.WireEvent.{WireEvent}
@@ -6,7 +7,7 @@ use Rattle.wire.specs.Placing.{places_in}
 use Rattle.wire.specs.Wires.{client_events}
 use Rattle.worker.specs.declared.act.Act.{Act}
 use Rattle.drawn_link.specs.declared.link.TheConstants.{HERE}
-use Rattle.drawn_link.specs.Runs.{IsListed}
+use Rattle.drawn_link.specs.Runs.{IsListed, is_sent}
 use Rattle.drawn_link.proofs.EndLemmas.{IsEnded-drawn}
 use Rattle.drawn_link.proofs.LinkLemmas.{IsDrawn-same}
 use Rattle.drawn_link.proofs.run.finish.Goals as goal
@@ -22,4 +23,5 @@ returns c =
     (subst AreTellableOps c.journal.ensures c.journals_are_tellable.ensures.tellable)
     (subst HaveMoments c.journal.ensures c.journals_are_tellable.ensures.moments)
     (subst (λ (log : List WireEvent). IsListed c.args.listed (client_events log)) (sym wire_is) c.requires)
+    (c.requests_in-given.ensures ∙ ap (λ (log : List WireEvent). count_by is_sent (client_events log)) c.events.ensures)
     (c.in_ok-places.ensures ∙ ap (λ (acts : List Act). places_in HERE acts c.of-wire.result) c.as_slice.ensures.value)

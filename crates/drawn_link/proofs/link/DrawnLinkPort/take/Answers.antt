@@ -1,5 +1,4 @@
 use Rattle.std.proofs.Common.{Some, ap, ◌∙◌, ◌++◌, ◌∷◌, [], List}
-use Rattle.edge_traits.specs.declared.port.Event.{Event}
 use Rattle.edge_traits.specs.declared.port.Event.TheVariants.{Took, Silence}
 use Rattle.wire.specs.declared.wire.WireEvent.{WireEvent}
 use Rattle.wire.specs.declared.wire.WireEvent.TheVariants.{Client}

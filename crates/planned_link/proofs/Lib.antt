@@ -1,0 +1,3 @@
+mod WorkedFacts
+pub mod ServiceLemmas
+pub mod LinkLemmas
