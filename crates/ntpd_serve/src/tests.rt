@@ -102,11 +102,61 @@ fn words_of(alloc: Global, text: &str) -> Result<Vec<String>, AllocError> {
     Ok(words)
 }
 
-/// What a run leaves: its status, what its ports saw, and what it printed.
+/// What a run leaves but for what it printed, told in short: so a test holds no whole session.
+#[derive(Drop)]
+struct Left {
+    status: Status,
+    /// What the port of `once` gave, end to end.
+    single: Option<Octets>,
+    session: Option<Workers>,
+    is_rehearsed: bool,
+    has_source: bool,
+}
+
+/// How many workers a session hands back, and whether each gave LOCAL_REPLY in one act.
+#[derive(Drop)]
+struct Workers {
+    count: usize,
+    have_answered: bool,
+}
+
+/// A run: what it left, and what it printed.
 #[derive(Drop)]
 struct Run {
-    ended: Ended<MemoryPort, MemoryClock, MemorySource>,
+    left: Left,
     out: MemorySink,
+}
+
+/// What a run left, in short.
+fn left_of(ended: &Ended<MemoryPort, MemoryClock, MemorySource>) -> Left {
+    Left {
+        status: ended.status,
+        single: match &ended.single {
+            Some(single) => Some(given(single.port.events())),
+            None => None,
+        },
+        session: match &ended.session {
+            Some(session) => Some(Workers {
+                count: session.workers.len(),
+                have_answered: has_acts(session, &LOCAL_REPLY),
+            }),
+            None => None,
+        },
+        is_rehearsed: ended.rehearsed.is_some(),
+        has_source: ended.source.is_some(),
+    }
+}
+
+/// What a run of these words over this host leaves, which prints there.
+fn left_by<R: Threads + Wait + Sync>(
+    rt: &R,
+    alloc: Global,
+    words: &[String],
+    host: &mut MemoryHost,
+    out: &mut MemorySink,
+) -> Left {
+    let ended = ntpd(rt, alloc, words, host, &OpenGate, out);
+    left_of(&ended)
 }
 
 /// A run of these words over this host, whose sink fails at these writes.
@@ -119,8 +169,8 @@ fn run_on<R: Threads + Wait + Sync>(
 ) -> Result<Run, AllocError> {
     let mut out = MemorySink::of(alloc, failing_writes);
     let words = words_of(alloc, text)?;
-    let ended = ntpd(rt, alloc, words.as_slice(), &mut host, &OpenGate, &mut out);
-    Ok(Run { ended, out })
+    let left = left_by(rt, alloc, words.as_slice(), &mut host, &mut out);
+    Ok(Run { left, out })
 }
 
 /// A clock that reads one second.
@@ -189,10 +239,10 @@ fn given(events: &[Event]) -> Octets {
 
 /// Whether a run ended so, printed this, and gave these octets.
 fn is_so(run: &Run, status: u8, printed: &str, gave: &[u8]) -> bool {
-    run.ended.status == Status(status)
+    run.left.status == Status(status)
         && run.out.contents() == printed.as_bytes()
-        && match &run.ended.single {
-            Some(single) => given(single.port.events()).as_slice() == gave,
+        && match &run.left.single {
+            Some(given) => given.as_slice() == gave,
             None => gave.is_empty(),
         }
 }
@@ -301,7 +351,7 @@ fn is_no_command(
     let none = Vec::new(alloc);
     let incoming = one(alloc, &REQUEST)?;
     let run = run_over(rt, alloc, words, incoming, none, Vec::new(alloc))?;
-    Ok(is_so(&run, 1, "ntpd: words\n", b"") && run.ended.single.is_none())
+    Ok(is_so(&run, 1, "ntpd: words\n", b"") && run.left.single.is_none())
 }
 
 #[test]
@@ -322,7 +372,7 @@ fn a_rehearsal_touches_no_host(rt: HostRuntime) -> Result<(), Fail> {
     let incoming = one(alloc, &REQUEST)?;
     let failing = vec![in alloc; 0]?;
     let run = run_over(&rt, alloc, "rehearse 7", incoming, Vec::new(alloc), failing)?;
-    assert!(rt; is_so(&run, 8, "", b"") && run.ended.rehearsed.is_some());
+    assert!(rt; is_so(&run, 8, "", b"") && run.left.is_rehearsed);
     Ok(())
 }
 
@@ -454,8 +504,8 @@ fn serve_serves_by_a_worker_at_each_address(rt: HostRuntime) -> Result<(), Fail>
     let run = run_on(&rt, alloc, SERVE, host, Vec::new(alloc))?;
     let line = "session entries 2 clients 1 epoch 0 left 0\n";
     assert!(rt; is_so(&run, 0, line, b""));
-    let session = run.ended.session.as_ref().ok_or("a session")?;
-    assert!(rt; session.workers.len() == 2 && has_acts(session, &LOCAL_REPLY));
+    let workers = run.left.session.as_ref().ok_or("a session")?;
+    assert!(rt; workers.count == 2 && workers.have_answered);
     Ok(())
 }
 
@@ -470,7 +520,7 @@ fn a_worker_whose_port_fails_ends_the_session(rt: HostRuntime) -> Result<(), Fai
     let host = host_of(alloc, files, ports)?;
     let run = run_on(&rt, alloc, SERVE, host, Vec::new(alloc))?;
     let lines = "session entries 1 clients 0 epoch 0 left 0\nntpd: port\n";
-    assert!(rt; is_so(&run, 4, lines, b"") && run.ended.session.is_some());
+    assert!(rt; is_so(&run, 4, lines, b"") && run.left.session.is_some());
     Ok(())
 }
 
@@ -505,10 +555,10 @@ fn a_refused_file_is_told_by_its_line_and_word(rt: HostRuntime) -> Result<(), Fa
         let conf = file(alloc, name, text, Vec::new(alloc))?;
         let run = run_of(&rt, alloc, conf, "7 MD5\n")?;
         assert!(rt;
-            is_so(&run, status, printed, b"") && run.ended.session.is_none(),
+            is_so(&run, status, printed, b"") && run.left.session.is_none(),
             "{printed}"
         );
-        assert!(rt; run.ended.source.is_none());
+        assert!(rt; !run.left.has_source);
     }
     Ok(())
 }
@@ -518,7 +568,7 @@ fn a_source_that_fails_comes_back(rt: HostRuntime) -> Result<(), Fail> {
     let alloc = rt.alloc();
     let conf = file(alloc, "conf", "local 2\n", vec![in alloc; 0u64]?)?;
     let run = run_of(&rt, alloc, conf, "")?;
-    assert!(rt; is_so(&run, 3, "ntpd: host\n", b"") && run.ended.source.is_some());
+    assert!(rt; is_so(&run, 3, "ntpd: host\n", b"") && run.left.has_source);
     Ok(())
 }
 
